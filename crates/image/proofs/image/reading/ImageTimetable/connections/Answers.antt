@@ -1,0 +1,6 @@
+use mathlib.Core.Path.{sym, _∙_}
+use Rattle.image.proofs.Sound.{connections-is}
+use Rattle.image.proofs.image.reading.ImageTimetable.connections.Needs as need
+
+pub returns : need.returns
+returns c = c .word .ensures ∙ sym (connections-is (c .args .self .now .bytes .now))

@@ -1,0 +1,4 @@
+pub mod Format
+pub mod Written
+pub mod Promises
+pub mod Reader

@@ -1,0 +1,5 @@
+pub mod Table
+pub mod Itinerary
+pub mod Pairs
+pub mod Labels
+pub mod Rows

@@ -1,0 +1,17 @@
+//! What a timetable is: its numberings, its connections, and the questions that every timetable answers.
+//!
+//! `specs/` defines what a timetable means (`Table`) and, over that meaning, itineraries (`Itinerary`), pairs of
+//! departure and arrival (`Pairs`), labels (`Labels`) and the rows of a search (`Rows`).
+
+pub mod connection;
+pub mod interface;
+pub mod label;
+pub mod numbers;
+
+pub use connection::Connection;
+pub use interface::Means;
+pub use interface::Timetable;
+pub use label::Label;
+pub use numbers::ConnectionNo;
+pub use numbers::Station;
+pub use numbers::Train;

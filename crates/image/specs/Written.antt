@@ -17,8 +17,12 @@ mark false = 0
 abbrev pub record-bytes : Connection → List ℕ
 record-bytes c = joined number-bytes (c .train .0 ∷ c .start .0 ∷ c .end .0 ∷ c .departure ∷ c .ride ∷ mark (c .runs) ∷ [])
 
+-- a header, from its numbers
+abbrev pub header-with : ℕ → ℕ → ℕ → ℕ → List ℕ
+header-with period stations trains connections = 0x50 ∷ 0x54 ∷ 0x54 ∷ 0 ∷ joined number-bytes (1 ∷ period ∷ stations ∷ trains ∷ connections ∷ 0 ∷ [])
+
 abbrev pub header-bytes : Table → List ℕ
-header-bytes t = 0x50 ∷ 0x54 ∷ 0x54 ∷ 0 ∷ joined number-bytes (1 ∷ t .period ∷ stations t ∷ t .trains ∷ connections t ∷ 0 ∷ [])
+header-bytes t = header-with (t .period) (stations t) (t .trains) (connections t)
 
 abbrev pub written : Table → List ℕ
 written t = header-bytes t ++ (joined number-bytes (t .transfers) ++ joined record-bytes (t .list))

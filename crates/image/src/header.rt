@@ -5,10 +5,42 @@ ghost use Prim.Native.Nat.{_≤_};
 ghost use lib.ListN.{length};
 ghost use Rattle.std.specs.Results.{Cases};
 ghost use Rattle.std.specs.declared.option.Option.the-variants.{Some, None};
-ghost use Rattle.image.specs.Format.{front-fault, limits-fault, length-fault};
+ghost use Rattle.image.specs.Format.{period-in, stations-in, trains-in, connections-in, front-fault, limits-fault, length-fault};
 use crate::layout::record_place;
 use crate::words::word;
 use refusals::Refusal;
+
+/// The period.
+pub(crate) fn period_of(bytes: &[u8]) -> u16
+    requires { ⌜ 16 ≤ length (now bytes) ⌝ }
+    ensures { λ r. ⌜ r ≡ period-in (now (bytes .entry)) ⌝ }
+{
+    word(bytes, 6)
+}
+
+/// The number of stations.
+pub(crate) fn stations_of(bytes: &[u8]) -> u16
+    requires { ⌜ 16 ≤ length (now bytes) ⌝ }
+    ensures { λ r. ⌜ r ≡ stations-in (now (bytes .entry)) ⌝ }
+{
+    word(bytes, 8)
+}
+
+/// The number of trains.
+pub(crate) fn trains_of(bytes: &[u8]) -> u16
+    requires { ⌜ 16 ≤ length (now bytes) ⌝ }
+    ensures { λ r. ⌜ r ≡ trains-in (now (bytes .entry)) ⌝ }
+{
+    word(bytes, 10)
+}
+
+/// The number of connections.
+pub(crate) fn connections_of(bytes: &[u8]) -> u16
+    requires { ⌜ 16 ≤ length (now bytes) ⌝ }
+    ensures { λ r. ⌜ r ≡ connections-in (now (bytes .entry)) ⌝ }
+{
+    word(bytes, 12)
+}
 
 /// Refused: `ShortHeader`, `WrongMark`, `UnknownVersion`.
 pub(crate) fn check_front(bytes: &[u8]) -> Result<(), Refusal>
@@ -53,18 +85,18 @@ pub(crate) fn check_limits(bytes: &[u8]) -> Result<(), Refusal>
     requires { ⌜ 16 ≤ length (now bytes) ⌝ }
     ensures { λ r. ⌜ Cases r (λ _. limits-fault (now (bytes .entry)) ≡ None) (λ e. limits-fault (now (bytes .entry)) ≡ Some e) ⌝ }
 {
-    let period = word(bytes, 6);
+    let period = period_of(bytes);
     if period < 1 || period > 10080 {
         return Err(Refusal::HeaderLimit(6));
     }
-    let stations = word(bytes, 8);
+    let stations = stations_of(bytes);
     if stations < 1 || stations > 1024 {
         return Err(Refusal::HeaderLimit(8));
     }
-    if word(bytes, 10) > 4096 {
+    if trains_of(bytes) > 4096 {
         return Err(Refusal::HeaderLimit(10));
     }
-    if word(bytes, 12) > 16384 {
+    if connections_of(bytes) > 16384 {
         return Err(Refusal::HeaderLimit(12));
     }
     if word(bytes, 14) != 0 {
@@ -78,7 +110,7 @@ pub(crate) fn check_length(bytes: &[u8]) -> Result<(), Refusal>
     requires { ⌜ 16 ≤ length (now bytes) ⌝ }
     ensures { λ r. ⌜ Cases r (λ _. length-fault (now (bytes .entry)) ≡ None) (λ e. length-fault (now (bytes .entry)) ≡ Some e) ⌝ }
 {
-    if bytes.len() != record_place(word(bytes, 8), word(bytes, 12)) {
+    if bytes.len() != record_place(stations_of(bytes), connections_of(bytes)) {
         return Err(Refusal::WrongLength(bytes.len()));
     }
     Ok(())

@@ -20,32 +20,13 @@ pub struct Image<'a> {
     ghost sound: { isOk (opened (now bytes)) ≡ true },
 }
 
-static SMALLEST: [u8; 18] = [
-    0x50,
-    0x54,
-    0x54,
-    0,
-    1,
-    0,
-    1,
-    0,
-    1,
-    0,
-    0,
-    0,
-    0,
-    0,
-    0,
-    0,
-    0,
-    0,
-];
-
 impl<'a> Image<'a> {
     /// A reader of the smallest timetable (period 1, one station, no train, no connection), to be filled by `open`.
     pub fn smallest() -> Image<'a>
         ensures { λ r. ⌜ table-in (now (r .bytes)) ≡ smallest ⌝ }
     {
-        Image { bytes: &SMALLEST }
+        Image {
+            bytes: b"PTT\0\x01\0\x01\0\x01\0\0\0\0\0\0\0\0\0",
+        }
     }
 }

@@ -1,12 +1,15 @@
 //! The records of the connections.
 
 ghost use mathlib.Core.Path.{_≡_};
-ghost use mathlib.Core.Bool.{_&&_};
 ghost use Prim.Native.Nat.{_+_, _≤_};
 ghost use lib.ListN.{length};
 ghost use Rattle.std.specs.Results.{Cases};
 ghost use Rattle.std.specs.declared.option.Option.the-variants.{Some, None};
 ghost use Rattle.image.specs.Format.{connection-in, connections-in, fields-ok, goes-on, record-at, first, record-fault};
+use crate::header::connections_of;
+use crate::header::period_of;
+use crate::header::stations_of;
+use crate::header::trains_of;
 use crate::layout::record_place;
 use crate::words::word;
 use refusals::Refusal;
@@ -41,10 +44,10 @@ fn within_limits(bytes: &[u8], at: usize) -> bool
     let departure = word(bytes, at + 6);
     let ride = word(bytes, at + 8);
     let mark = word(bytes, at + 10);
-    train < word(bytes, 10)
-        && start < word(bytes, 8)
-        && end < word(bytes, 8)
-        && departure < word(bytes, 6)
+    train < trains_of(bytes)
+        && start < stations_of(bytes)
+        && end < stations_of(bytes)
+        && departure < period_of(bytes)
         && ride >= 1
         && ride <= 10080
         && mark <= 1
@@ -66,7 +69,7 @@ fn check_record(bytes: &[u8], number: u16) -> Result<(), Refusal>
     requires { ⌜ record-at (now bytes) (number + 1) ≤ length (now bytes) ⌝ }
     ensures { λ r. ⌜ Cases r (λ _. record-fault (now (bytes .entry)) number ≡ None) (λ e. record-fault (now (bytes .entry)) number ≡ Some e) ⌝ }
 {
-    let stations = word(bytes, 8);
+    let stations = stations_of(bytes);
     let at = record_place(stations, number);
     if !within_limits(bytes, at) {
         return Err(Refusal::RecordLimit(number));
@@ -85,7 +88,7 @@ pub(crate) fn check_records(bytes: &[u8]) -> Result<(), Refusal>
     requires { ⌜ record-at (now bytes) (connections-in (now bytes)) ≤ length (now bytes) ⌝ }
     ensures { λ r. ⌜ Cases r (λ _. first (record-fault (now (bytes .entry))) 0 (connections-in (now (bytes .entry))) ≡ None) (λ e. first (record-fault (now (bytes .entry))) 0 (connections-in (now (bytes .entry))) ≡ Some e) ⌝ }
 {
-    let connections = word(bytes, 12);
+    let connections = connections_of(bytes);
     for c in 0..connections {
         check_record(bytes, c)?;
     }

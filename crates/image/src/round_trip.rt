@@ -1,13 +1,11 @@
 //! Writing and reading undo each other.
 
 ghost use mathlib.Core.Path.{_≡_};
-ghost use mathlib.Core.List.{_++_};
 ghost use Prim.Native.Nat.{_<_};
-ghost use lib.ListN.{length, drop};
+ghost use lib.ListN.{length};
 ghost use Rattle.std.specs.Results.{Cases};
-ghost use Rattle.std.specs.declared.option.Option.the-variants.{Some, None};
 ghost use Rattle.refusals.specs.declared.refusal.Refusal.the-variants.{ShortOutput};
-ghost use Rattle.image.specs.Promises.{rewrite-fault};
+ghost use Rattle.image.specs.Promises.{Rewrites, Unwritten};
 ghost use Rattle.image.specs.Written.{written};
 ghost use Rattle.image.specs.Reader.{means};
 use crate::image::Image;
@@ -33,7 +31,7 @@ pub fn copy<'a, T: Timetable>(
 /// Opens an image and writes it out again, at the front of the output: the same bytes. Answers their number; the
 /// output behind them stays. Refused: what is wrong with the image first, then `ShortOutput`; the output is as it was.
 pub fn rewrite(bytes: &[u8], out: &mut [u8]) -> Result<usize, Refusal>
-    ensures { λ r. ⌜ Cases r (λ n. (rewrite-fault (now (bytes .entry)) (length (now (out .entry))) ≡ None) × (n ≡ length (now (bytes .entry))) × (now (out .exit) ≡ now (bytes .entry) ++ drop n (now (out .entry)))) (λ e. (rewrite-fault (now (bytes .entry)) (length (now (out .entry))) ≡ Some e) × (now (out .exit) ≡ now (out .entry))) ⌝ }
+    ensures { λ r. ⌜ Cases r (λ n. Rewrites (now (bytes .entry)) (now (out .entry)) (now (out .exit)) n) (λ e. Unwritten (now (bytes .entry)) (length (now (out .entry))) e × (now (out .exit) ≡ now (out .entry))) ⌝ }
 {
     let mut image = Image::smallest();
     image.open(bytes)?;

@@ -6,6 +6,7 @@ ghost use lib.ListN.{length};
 ghost use Rattle.std.specs.Results.{Cases};
 ghost use Rattle.std.specs.declared.option.Option.the-variants.{Some, None};
 ghost use Rattle.image.specs.Format.{stations-in, first, transfer-fault};
+use crate::header::stations_of;
 use crate::layout::transfer_place;
 use crate::words::word;
 use refusals::Refusal;
@@ -26,7 +27,7 @@ pub(crate) fn check_transfers(bytes: &[u8]) -> Result<(), Refusal>
     requires { ⌜ 16 + 2 * stations-in (now bytes) ≤ length (now bytes) ⌝ }
     ensures { λ r. ⌜ Cases r (λ _. first (transfer-fault (now (bytes .entry))) 0 (stations-in (now (bytes .entry))) ≡ None) (λ e. first (transfer-fault (now (bytes .entry))) 0 (stations-in (now (bytes .entry))) ≡ Some e) ⌝ }
 {
-    let stations = word(bytes, 8);
+    let stations = stations_of(bytes);
     for v in 0..stations {
         check_transfer(bytes, v)?;
     }

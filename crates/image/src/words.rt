@@ -1,10 +1,9 @@
-//! Numbers of two bytes, the low one first.
+//! Numbers of two bytes, the low one first, as they are read.
 
 ghost use mathlib.Core.Path.{_≡_};
 ghost use Prim.Native.Nat.{_+_, _<_};
 ghost use lib.ListN.{length};
 ghost use Rattle.image.specs.Format.{number};
-ghost use Rattle.image.specs.Written.{number-bytes};
 
 /// The number at a byte.
 pub(crate) fn word(bytes: &[u8], at: usize) -> u16
@@ -12,11 +11,4 @@ pub(crate) fn word(bytes: &[u8], at: usize) -> u16
     ensures { λ r. ⌜ r ≡ number (now (bytes .entry)) at ⌝ }
 {
     u16::from(bytes[at]) + 256 * u16::from(bytes[at + 1])
-}
-
-/// The bytes of a number.
-pub(crate) fn word_bytes(n: u16) -> [u8; 2]
-    ensures { λ r. ⌜ r ≡ number-bytes n ⌝ }
-{
-    [(n % 256) as u8, (n / 256) as u8]
 }

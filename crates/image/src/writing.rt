@@ -7,92 +7,26 @@ ghost use lib.Seq.{paste};
 ghost use Rattle.std.specs.Joined.{joined};
 ghost use Rattle.std.specs.Results.{Cases};
 ghost use Rattle.refusals.specs.declared.refusal.Refusal.the-variants.{ShortOutput};
-ghost use Rattle.timetable.specs.Table.{at, stations, connections, transfer};
+ghost use Rattle.timetable.specs.Table.{stations, connections};
 ghost use Rattle.image.specs.Promises.{Writes};
 ghost use Rattle.image.specs.Written.{number-bytes, record-bytes, header-bytes, written};
 use crate::layout::record_place;
 use crate::layout::transfer_place;
-use crate::words::word_bytes;
+use crate::packing::header_bytes;
+use crate::packing::number_bytes;
+use crate::packing::record_bytes;
 use refusals::Refusal;
-use timetable::Connection;
 use timetable::ConnectionNo;
 use timetable::Station;
 use timetable::Timetable;
-
-/// The bytes of a connection's record.
-fn record_of(c: Connection) -> [u8; 12]
-    ensures { λ r. ⌜ r ≡ record-bytes c ⌝ }
-{
-    let [train_low, train_high] = word_bytes(c.train.0);
-    let [start_low, start_high] = word_bytes(c.start.0);
-    let [end_low, end_high] = word_bytes(c.end.0);
-    let [departure_low, departure_high] = word_bytes(c.departure);
-    let [ride_low, ride_high] = word_bytes(c.ride);
-    let mark = if c.runs { 1 } else { 0 };
-    [
-        train_low,
-        train_high,
-        start_low,
-        start_high,
-        end_low,
-        end_high,
-        departure_low,
-        departure_high,
-        ride_low,
-        ride_high,
-        mark,
-        0,
-    ]
-}
+use timetable::connection_at;
+use timetable::transfer_at;
 
 /// The bytes of a timetable's header.
 fn header_of<T: Timetable>(t: &T) -> [u8; 16]
     ensures { λ r. ⌜ r ≡ header-bytes (T·Means .meaning (now (t .entry))) ⌝ }
 {
-    let [period_low, period_high] = word_bytes(t.period());
-    let [stations_low, stations_high] = word_bytes(t.stations());
-    let [trains_low, trains_high] = word_bytes(t.trains());
-    let [connections_low, connections_high] = word_bytes(t.connections());
-    [
-        0x50,
-        0x54,
-        0x54,
-        0,
-        1,
-        0,
-        period_low,
-        period_high,
-        stations_low,
-        stations_high,
-        trains_low,
-        trains_high,
-        connections_low,
-        connections_high,
-        0,
-        0,
-    ]
-}
-
-/// The transfer time of a station that is there.
-fn transfer_of<T: Timetable>(t: &T, station: u16) -> u16
-    requires { ⌜ station < stations (T·Means .meaning (now t)) ⌝ }
-    ensures { λ r. ⌜ r ≡ transfer (T·Means .meaning (now (t .entry))) station ⌝ }
-{
-    match t.transfer(Station(station)) {
-        Ok(minutes) => minutes,
-        Err(_) => unreachable(),
-    }
-}
-
-/// The connection of a number that is there.
-fn connection_of<T: Timetable>(t: &T, number: u16) -> Connection
-    requires { ⌜ number < connections (T·Means .meaning (now t)) ⌝ }
-    ensures { λ r. ⌜ r ≡ at (T·Means .meaning (now (t .entry))) number ⌝ }
-{
-    match t.connection(ConnectionNo(number)) {
-        Ok(connection) => connection,
-        Err(_) => unreachable(),
-    }
+    header_bytes(t.period(), t.stations(), t.trains(), t.connections())
 }
 
 /// Writes bytes into the output from a place on.
@@ -110,7 +44,11 @@ fn put_transfers<T: Timetable>(t: &T, out: &mut [u8])
 {
     let stations = t.stations();
     for v in 0..stations {
-        put(out, transfer_place(v), &word_bytes(transfer_of(t, v)));
+        put(
+            out,
+            transfer_place(v),
+            &number_bytes(transfer_at(t, Station(v))),
+        );
     }
 }
 
@@ -125,7 +63,7 @@ fn put_records<T: Timetable>(t: &T, out: &mut [u8])
         put(
             out,
             record_place(stations, c),
-            &record_of(connection_of(t, c)),
+            &record_bytes(connection_at(t, ConnectionNo(c))),
         );
     }
 }

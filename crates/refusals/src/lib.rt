@@ -4,4 +4,5 @@ pub mod refusal;
 pub mod text;
 
 pub use refusal::Refusal;
+pub use text::RefusalDebug;
 pub use text::RefusalDisplay;

@@ -2,7 +2,7 @@ ghost use mathlib.Core.Path.{_≡_};
 ghost use Rattle.refusals.specs.Told.{told};
 
 /// Why a call was refused. Each case carries the item that the refusal names.
-#[derive(Clone, Copy, PartialEq, Eq, Debug)]
+#[derive(Clone, Copy)]
 pub enum Refusal {
     // opening an image
     /// an image shorter than its header: its length

@@ -6,7 +6,7 @@ use std::fmt;
 
 impl Refusal {
     /// What the refusal says, in words.
-    pub fn meaning(self) -> &'static str
+    fn meaning(self) -> &'static str
         ensures { λ r. ⌜ now r ≡ words self ⌝ }
     {
         match self {
@@ -54,5 +54,12 @@ pub impl fmt::Display for Refusal as RefusalDisplay {
         let item = self.item();
         let meaning = self.meaning();
         write!(f, "refused {number}, layer {layer}, item {item}: {meaning}")
+    }
+}
+
+/// The same line, for messages about a failed test.
+pub impl fmt::Debug for Refusal as RefusalDebug {
+    fn fmt<W: fmt::Write>(&self, f: &mut fmt::Formatter<W>) -> fmt::Result {
+        write!(f, "{self}")
     }
 }

@@ -1,19 +1,14 @@
 -- First departures, places, labels, which labels lead, and their origins.
 use mathlib.Core.Path.{_≡_}
-use mathlib.Core.List.{List, [], _∷_, _++_}
-use mathlib.Core.Bool.{Bool, true, false, cond, _&&_, _||_}
+use mathlib.Core.List.{List, [], _∷_}
+use mathlib.Core.Bool.{Bool, true, cond, _&&_, _||_}
 use mathlib.Core.Logic.{_⊎_}
 use Prim.Native.Nat.{ℕ, zero, suc, _+_, _≤_, _<_}
 use lib.ListN.{length, getD}
 use lib.Dec.{eqb, ltb}
 use lib.IntN.{pos}
-use Rattle.std.specs.shelf.Lists.{kept-by}
 use Rattle.timetable.specs.Table.{Table, at, stations, connections, transfer, stand, next-departure, Follows}
 use Rattle.timetable.specs.Itinerary.{Ride, Itinerary, arrival, last}
-
-abbrev pub upto : ℕ → List ℕ
-upto zero = []
-upto (suc n) = upto n ++ n ∷ []
 
 -- c may be a first ride from s
 abbrev pub leaves : Table → ℕ → ℕ → Bool
@@ -23,17 +18,19 @@ leaves t s c = at t c .runs && eqb (at t c .start .0) s
 abbrev pub sooner : Table → ℕ → ℕ → Bool
 sooner t c e = ltb (at t c .departure) (at t e .departure) || (eqb (at t c .departure) (at t e .departure) && ltb c e)
 
-abbrev pub inserted : {X : Type 0} → (X → X → Bool) → X → List X → List X
-inserted lt x [] = x ∷ []
-inserted lt x (y ∷ ys) = cond (lt y x) (y ∷ inserted lt x ys) (x ∷ y ∷ ys)
+-- x put into a list in order, behind all that come before it
+unfoldable pub inserted : {X : Type 0} → (X → X → Bool) → X → List X → List X
+inserted before x [] = x ∷ []
+inserted before x (y ∷ ys) = cond (before y x) (y ∷ inserted before x ys) (x ∷ y ∷ ys)
 
-abbrev pub sorted : {X : Type 0} → (X → X → Bool) → List X → List X
-sorted lt [] = []
-sorted lt (x ∷ xs) = inserted lt x (sorted lt xs)
+-- the first departures from s among the connections below k, in order
+unfoldable pub firsts-below : Table → ℕ → ℕ → List ℕ
+firsts-below t s zero = []
+firsts-below t s (suc c) = cond (leaves t s c) (inserted (sooner t) c (firsts-below t s c)) (firsts-below t s c)
 
 -- the first departures from s; a rank is a place in this list
 abbrev pub firsts : Table → ℕ → List ℕ
-firsts t s = sorted (sooner t) (kept-by (leaves t s) (upto (connections t)))
+firsts t s = firsts-below t s (connections t)
 
 abbrev pub ranks : Table → ℕ → ℕ
 ranks t s = length (firsts t s)

@@ -3,3 +3,4 @@ pub mod Itinerary
 pub mod Pairs
 pub mod Labels
 pub mod Rows
+pub mod Examples

@@ -3,11 +3,14 @@
 //! `specs/` defines what a timetable means (`Table`) and, over that meaning, itineraries (`Itinerary`), pairs of
 //! departure and arrival (`Pairs`), labels (`Labels`) and the rows of a search (`Rows`).
 
+pub mod asking;
 pub mod connection;
 pub mod interface;
 pub mod label;
 pub mod numbers;
 
+pub use asking::connection_at;
+pub use asking::transfer_at;
 pub use connection::Connection;
 pub use interface::Means;
 pub use interface::Timetable;

@@ -4,6 +4,10 @@ ghost use mathlib.Core.Path.{_≡_};
 ghost use denote.Ref.{now};
 ghost use Rattle.image.specs.Reader.{means};
 use super::Image;
+use crate::header::connections_of;
+use crate::header::period_of;
+use crate::header::stations_of;
+use crate::header::trains_of;
 use crate::layout::record_place;
 use crate::layout::transfer_place;
 use crate::records::connection_at;
@@ -21,19 +25,19 @@ pub impl Means for Image<'_> as ImageMeans {
 
 pub impl Timetable for Image<'_> as ImageTimetable {
     fn period(&self) -> u16 {
-        word(self.bytes, 6)
+        period_of(self.bytes)
     }
 
     fn stations(&self) -> u16 {
-        word(self.bytes, 8)
+        stations_of(self.bytes)
     }
 
     fn trains(&self) -> u16 {
-        word(self.bytes, 10)
+        trains_of(self.bytes)
     }
 
     fn connections(&self) -> u16 {
-        word(self.bytes, 12)
+        connections_of(self.bytes)
     }
 
     fn transfer(&self, station: Station) -> Result<u16, Refusal> {

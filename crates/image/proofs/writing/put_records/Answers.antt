@@ -14,7 +14,7 @@ loop-c-holds g c = search (needs, paste-none)
 pub loop-c-again : need.loop-c-again
 loop-c-again g c =
     let t = g .T·Means .meaning (c .args .t .now) in
-    put-step record-bytes 12 (λ _. refl) (c .args .out .now) (16 + 2 * stations t) (t .list) (c .loop-c .c) no-connection (c .loop-c .out) (c .put .last .out) (c .record-of .result) (c .record-place .result) (omega arith) (omega arith) (c .loop-c .inv) (omega arith) (c .record-of .ensures ∙ ap record-bytes (c .connection-of .ensures)) (c .put .ensures)
+    put-step record-bytes 12 (λ _. refl) (c .args .out .now) (16 + 2 * stations t) (t .list) (c .loop-c .c) no-connection (c .loop-c .out) (c .put .last .out) (c .record-bytes .result) (c .record-place .result) (omega arith) (omega arith) (c .loop-c .inv) (omega arith) (c .record-bytes .ensures ∙ ap record-bytes (c .connection-at .ensures)) (c .put .ensures)
 
 pub returns : need.returns
 returns g c =

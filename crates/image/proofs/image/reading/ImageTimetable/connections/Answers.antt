@@ -3,4 +3,4 @@ use Rattle.image.proofs.Sound.{connections-is}
 use Rattle.image.proofs.image.reading.ImageTimetable.connections.Needs as need
 
 pub returns : need.returns
-returns c = c .word .ensures ∙ sym (connections-is (c .args .self .now .bytes .now))
+returns c = c .connections-of .ensures ∙ sym (connections-is (c .args .self .now .bytes .now))

@@ -1,0 +1,7 @@
+//! What a queue is: its kinds of entry and its promises, for any make of queue.
+
+pub mod entry;
+pub mod interface;
+
+pub use entry::Entry;
+pub use interface::Queue;

@@ -13,6 +13,7 @@ use crate::heads::Heads;
 use crate::heads::NONE;
 use queue::Entry;
 use queue::Queue;
+use queue::check_room;
 use refusals::Refusal;
 
 /// A queue in the caller's cells: an entry is in the chain of its minute modulo 256.
@@ -92,9 +93,7 @@ pub impl<E: Entry> Queue<E> for Buckets<'_, E> as BucketsQueue {
             return Ok(());
         }
         let new = self.fresh;
-        if room <= new {
-            return Err(Refusal::FullQueue(room));
-        }
+        check_room(new, room)?;
         self.fresh = new + 1;
         self.place(new, e);
         Ok(())

@@ -6,6 +6,7 @@ use crate::sift::rise;
 use crate::sift::sink;
 use queue::Entry;
 use queue::Queue;
+use queue::check_room;
 use refusals::Refusal;
 
 /// A queue in the caller's slice of entries: the first `len` of them are held, as a binary heap.
@@ -36,9 +37,7 @@ pub impl<E: Entry> Queue<E> for Heap<'_, E> as HeapQueue {
     fn put(&mut self, e: E) -> Result<(), Refusal> {
         let n = self.len;
         let room = self.cells.len();
-        if room <= n {
-            return Err(Refusal::FullQueue(room));
-        }
+        check_room(n, room)?;
         rise(&mut self.cells[0..n + 1], n, e);
         self.len = n + 1;
         Ok(())

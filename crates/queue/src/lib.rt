@@ -2,6 +2,8 @@
 
 pub mod entry;
 pub mod interface;
+pub mod room;
 
 pub use entry::Entry;
 pub use interface::Queue;
+pub use room::check_room;

@@ -1,1 +1,9 @@
 pub mod Firsts
+pub mod Clock
+pub mod Walk
+pub mod Finished
+pub mod Steps
+pub mod Distinct
+pub mod Bounds
+pub mod Ways
+pub mod Exactly

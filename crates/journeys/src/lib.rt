@@ -1,10 +1,46 @@
-//! The mathematics of the search: theorems about labels, first departures and the search as a relation, each on the
-//! contract of a function.
+//! The mathematics of the search: theorems about labels, first departures and the search as a relation, for any lawful
+//! timetable. Each is the contract of a function, so that the crate is not proved without it.
 
-ghost use Rattle.journeys.specs.Theorems.{First-departures};
+ghost use Rattle.journeys.specs.Paths.{Bridge};
+ghost use Rattle.journeys.specs.Theorems.{First-departures, Next-first, Gives-monotone, Search-begins, Search-keeps, Search-ends, Search-found};
 
 /// The first departures are the running connections that start at the source, each once, by departure and then by
 /// number.
 pub fn first_departures()
     ensures { λ _. ⌜ First-departures ⌝ }
+{}
+
+/// An itinerary that begins in the present period is a path over natural minutes, and each path is one.
+pub fn itineraries_are_paths()
+    ensures { λ _. ⌜ Bridge ⌝ }
+{}
+
+/// The next departure at or after a minute is a departure, and none at or after that minute is earlier.
+pub fn next_departure_is_first()
+    ensures { λ _. ⌜ Next-first ⌝ }
+{}
+
+/// What an earlier label gives is no later.
+pub fn earlier_gives_no_later()
+    ensures { λ _. ⌜ Gives-monotone ⌝ }
+{}
+
+/// A search that begins with the first rides in its queue has what holds between its steps.
+pub fn search_begins()
+    ensures { λ _. ⌜ Search-begins ⌝ }
+{}
+
+/// Every step of a search keeps it.
+pub fn search_keeps()
+    ensures { λ _. ⌜ Search-keeps ⌝ }
+{}
+
+/// With an empty queue the settled labels are exactly the leading labels, with exactly their origins.
+pub fn search_ends()
+    ensures { λ _. ⌜ Search-ends ⌝ }
+{}
+
+/// So every search that has come to an empty queue has found exactly these.
+pub fn search_finds()
+    ensures { λ _. ⌜ Search-found ⌝ }
 {}

@@ -7,3 +7,5 @@ pub mod Distinct
 pub mod Bounds
 pub mod Ways
 pub mod Exactly
+pub mod Small
+pub mod Sizes

@@ -62,11 +62,12 @@ Search-found = (t : Table) → Lawful t → (s : ℕ) (l : List Entry) → State
 abbrev pub Labels-small : Type 0
 Labels-small = (t : Table) → Lawful t → (s i p n : ℕ) → IsLabel t s i p n → n < 400000000
 
--- and so is every minute that a search settles or queues; it settles no rank and place twice, so at most
--- first departures × places
+-- and so is every minute that a search settles or queues; all its ranks and places are the timetable's; and it settles
+-- no rank and place twice, so at most first departures × places labels
 pub record Small (t : Table) (s : ℕ) (l queue : List Entry) : Type 0 where
-  pub settled : (e : Entry) → Mem e l → e .minute < 400000000
-  pub queued : (e : Entry) → Mem e queue → e .minute < 400000000
+  pub settled : (e : Entry) → Mem e l → (e .minute < 400000000) × (e .rank < ranks t s) × (e .place < places t)
+  pub queued : (e : Entry) → Mem e queue → (e .minute < 400000000) × (e .rank < ranks t s) × (e .place < places t)
+  pub once : (a b : Entry) → Mem a l → Mem b l → a .place ≡ b .place → a .rank ≡ b .rank → a ≡ b
   pub few : length l ≤ ranks t s * places t
 
 abbrev pub Search-small : Type 0

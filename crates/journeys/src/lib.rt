@@ -2,7 +2,7 @@
 //! timetable. Each is the contract of a function, so that the crate is not proved without it.
 
 ghost use Rattle.journeys.specs.Paths.{Bridge};
-ghost use Rattle.journeys.specs.Theorems.{First-departures, Next-first, Gives-monotone, Search-begins, Search-keeps, Search-ends, Search-found};
+ghost use Rattle.journeys.specs.Theorems.{First-departures, Next-first, Gives-monotone, Search-begins, Search-keeps, Search-ends, Search-found, Labels-small, Search-small};
 
 /// The first departures are the running connections that start at the source, each once, by departure and then by
 /// number.
@@ -43,4 +43,15 @@ pub fn search_ends()
 /// So every search that has come to an empty queue has found exactly these.
 pub fn search_finds()
     ensures { λ _. ⌜ Search-found ⌝ }
+{}
+
+/// Every label is below 400,000,000.
+pub fn labels_are_small()
+    ensures { λ _. ⌜ Labels-small ⌝ }
+{}
+
+/// So is every minute that a search settles or queues; it settles no rank and place twice, and at most first departures ×
+/// places labels.
+pub fn searches_are_small()
+    ensures { λ _. ⌜ Search-small ⌝ }
 {}

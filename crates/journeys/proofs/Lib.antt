@@ -9,3 +9,5 @@ pub mod Ways
 pub mod Exactly
 pub mod Small
 pub mod Sizes
+pub mod Queued
+pub mod Whole

@@ -1,3 +1,4 @@
 pub mod Search
 pub mod Paths
 pub mod Theorems
+pub mod Queued

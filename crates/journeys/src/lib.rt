@@ -2,6 +2,7 @@
 //! timetable. Each is the contract of a function, so that the crate is not proved without it.
 
 ghost use Rattle.journeys.specs.Paths.{Bridge};
+ghost use Rattle.journeys.specs.Queued.{Opening-begins, Leads-put, Search-finishes};
 ghost use Rattle.journeys.specs.Theorems.{First-departures, Next-first, Gives-monotone, Search-begins, Search-keeps, Search-ends, Search-found, Labels-small, Search-small};
 
 /// The first departures are the running connections that start at the source, each once, by departure and then by
@@ -54,4 +55,19 @@ pub fn labels_are_small()
 /// places labels.
 pub fn searches_are_small()
     ensures { λ _. ⌜ Search-small ⌝ }
+{}
+
+/// The list of the first rides is what a search begins with.
+pub fn first_rides_begin()
+    ensures { λ _. ⌜ Opening-begins ⌝ }
+{}
+
+/// The list of what an entry leads to has one entry for each ride's arrival, stay and change, and no other.
+pub fn leads_are_put()
+    ensures { λ _. ⌜ Leads-put ⌝ }
+{}
+
+/// Every search can be brought to its end.
+pub fn searches_finish()
+    ensures { λ _. ⌜ Search-finishes ⌝ }
 {}

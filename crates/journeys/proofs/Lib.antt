@@ -11,3 +11,4 @@ pub mod Small
 pub mod Sizes
 pub mod Queued
 pub mod Whole
+pub mod Pairs

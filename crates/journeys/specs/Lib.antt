@@ -2,3 +2,4 @@ pub mod Search
 pub mod Paths
 pub mod Theorems
 pub mod Queued
+pub mod Chosen

@@ -1,6 +1,7 @@
 //! The mathematics of the search: theorems about labels, first departures and the search as a relation, for any lawful
 //! timetable. Each is the contract of a function, so that the crate is not proved without it.
 
+ghost use Rattle.journeys.specs.Chosen.{Pairs-chosen, Pairs-cover};
 ghost use Rattle.journeys.specs.Paths.{Bridge};
 ghost use Rattle.journeys.specs.Queued.{Opening-begins, Leads-put, Search-finishes};
 ghost use Rattle.journeys.specs.Theorems.{First-departures, Next-first, Gives-monotone, Search-begins, Search-keeps, Search-ends, Search-found, Labels-small, Search-small};
@@ -70,4 +71,15 @@ pub fn leads_are_put()
 /// Every search can be brought to its end.
 pub fn searches_finish()
     ensures { λ _. ⌜ Search-finishes ⌝ }
+{}
+
+/// The unbeaten pairs of all itineraries are the pairs of departures and leading labels, moved by whole periods, that none of
+/// these beats.
+pub fn pairs_are_chosen()
+    ensures { λ _. ⌜ Pairs-chosen ⌝ }
+{}
+
+/// For every itinerary such a pair departs no earlier and arrives no later.
+pub fn pairs_are_covered()
+    ensures { λ _. ⌜ Pairs-cover ⌝ }
 {}

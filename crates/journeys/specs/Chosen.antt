@@ -1,0 +1,35 @@
+-- The unbeaten pairs, by leading labels.
+use mathlib.Core.Path.{_≡_}
+use mathlib.Core.Logic.{_↔_}
+use Prim.Native.Nat.{ℕ, _≤_, _<_}
+use lib.IntN.{ℤ, pos, _+ℤ_, _*ℤ_}
+use lib.Signed.{_≤ℤ_, _<ℤ_}
+use Rattle.timetable.specs.Table.{Table, Lawful, at, stations}
+use Rattle.timetable.specs.Pairs.{Travels, Beats, Unbeaten}
+use Rattle.timetable.specs.Labels.{rank-connection, Leads}
+
+-- minute n, moved by k periods
+abbrev pub moved : Table → ℕ → ℤ → ℤ
+moved t n k = pos n +ℤ (k *ℤ pos (t .period))
+
+-- a rank's departure with its leading label of the target, moved by whole periods
+pub record LeadingPair (t : Table) (s v : ℕ) (d a : ℤ) : Type 0 where
+  pub rank : ℕ
+  pub minute : ℕ
+  pub periods : ℤ
+  pub leads : Leads t s rank v minute
+  pub departs : d ≡ moved t (at t (rank-connection t s rank) .departure) periods
+  pub arrives : a ≡ moved t minute periods
+
+-- one that no other beats
+pub record Chosen (t : Table) (s v : ℕ) (d a : ℤ) : Type 0 where
+  pub pair : LeadingPair t s v d a
+  pub unbeaten : (d′ a′ : ℤ) → LeadingPair t s v d′ a′ → Beats d′ a′ d a → ⊥
+
+-- the unbeaten pairs of all itineraries are these
+abbrev pub Pairs-chosen : Type 0
+Pairs-chosen = (t : Table) → Lawful t → (s v : ℕ) → v < stations t → (d a : ℤ) → Unbeaten t s v d a ↔ Chosen t s v d a
+
+-- for every itinerary a leading pair departs no earlier and arrives no later
+abbrev pub Pairs-cover : Type 0
+Pairs-cover = (t : Table) → Lawful t → (s v : ℕ) → v < stations t → (d a : ℤ) → Travels t s v d a → (d′ : ℤ) × (a′ : ℤ) × LeadingPair t s v d′ a′ × (d ≤ℤ d′) × (a′ ≤ℤ a)

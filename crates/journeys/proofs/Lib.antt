@@ -12,3 +12,4 @@ pub mod Sizes
 pub mod Queued
 pub mod Whole
 pub mod Pairs
+pub mod Traced

@@ -3,3 +3,4 @@ pub mod Paths
 pub mod Theorems
 pub mod Queued
 pub mod Chosen
+pub mod Trace

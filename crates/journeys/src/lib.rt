@@ -5,6 +5,7 @@ ghost use Rattle.journeys.specs.Chosen.{Pairs-chosen, Pairs-cover};
 ghost use Rattle.journeys.specs.Paths.{Bridge};
 ghost use Rattle.journeys.specs.Queued.{Opening-begins, Leads-put, Search-finishes};
 ghost use Rattle.journeys.specs.Theorems.{First-departures, Next-first, Gives-monotone, Search-begins, Search-keeps, Search-ends, Search-found, Labels-small, Search-small};
+ghost use Rattle.journeys.specs.Trace.{Origins-tell};
 
 /// The first departures are the running connections that start at the source, each once, by departure and then by
 /// number.
@@ -82,4 +83,9 @@ pub fn pairs_are_chosen()
 /// For every itinerary such a pair departs no earlier and arrives no later.
 pub fn pairs_are_covered()
     ensures { λ _. ⌜ Pairs-cover ⌝ }
+{}
+
+/// Following origins from a settled label, each step falls, and the rides met are an itinerary that reaches the label.
+pub fn origins_tell_itineraries()
+    ensures { λ _. ⌜ Origins-tell ⌝ }
 {}

@@ -33,7 +33,7 @@ abbrev pub after : ℕ → ℕ → ℕ → ℕ
 after d p x = x + (d + (p - x % p)) % p
 
 module _ (d p : ℕ) (low : d < p) where
-  after-is : (x : ℕ) → ((x % p ≤ d) × (after d p x ≡ d + p * (x / p))) ⊎ ((d < x % p) × (after d p x ≡ d + p * (x / p + 1)))
+  pub after-is : (x : ℕ) → ((x % p ≤ d) × (after d p x ≡ d + p * (x / p))) ⊎ ((d < x % p) × (after d p x ≡ d + p * (x / p + 1)))
   after-is x = by-case (wait-cases d (x % p) p low (mod-lt x (omega arith)))
     where
       r : x % p < p

@@ -13,11 +13,11 @@ use Rattle.journeys.proofs.Finished.{exact}
 use Rattle.journeys.proofs.Steps.{step, begins, ends}
 
 module _ (t : Table) (l : Lawful t) (s : ℕ) where
-  abbrev departs : ℕ → ℕ
+  abbrev pub departs : ℕ → ℕ
   departs i = at t (rank-connection t s i) .departure
 
   -- no path is before the first ride
-  not-before : (i : ℕ) {q m : ℕ} → Path (ways t s) i q m → departs i ≤ m
+  pub not-before : (i : ℕ) {q m : ℕ} → Path (ways t s) i q m → departs i ≤ m
   not-before i (begin f) = omega (arith, f .departure)
   not-before i (go {q} {m} {p} {n} h g) = omega (arith, not-before i h, onward t l q m p n g)
 

@@ -13,3 +13,4 @@ pub mod Queued
 pub mod Whole
 pub mod Pairs
 pub mod Traced
+pub mod Unbeaten

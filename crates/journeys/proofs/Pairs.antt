@@ -27,13 +27,13 @@ use Rattle.journeys.proofs.Steps.{ends}
 use Rattle.journeys.proofs.Exactly.{running, found}
 use Rattle.journeys.proofs.Whole.{finishes}
 
-distribute : (a b : ℤ) (p : ℕ) → (a +ℤ b) *ℤ pos p ≡ a *ℤ pos p +ℤ b *ℤ pos p
+pub distribute : (a b : ℤ) (p : ℕ) → (a +ℤ b) *ℤ pos p ≡ a *ℤ pos p +ℤ b *ℤ pos p
 distribute a b p = omega (arith, ints, ap (λ (y : ℕ). y * p) (sum-is a b))
 
-opposite : (a : ℤ) (p : ℕ) → negℤ a *ℤ pos p ≡ negℤ (a *ℤ pos p)
+pub opposite : (a : ℤ) (p : ℕ) → negℤ a *ℤ pos p ≡ negℤ (a *ℤ pos p)
 opposite a p = omega (arith, ints, ap (λ (y : ℕ). y * p) (neg-is a .0), ap (λ (y : ℕ). y * p) (neg-is a .1))
 
-same-or-less : (x y : ℤ) → x ≤ℤ y → (x ≡ y) ⊎ (x <ℤ y)
+pub same-or-less : (x y : ℤ) → x ≤ℤ y → (x ≡ y) ⊎ (x <ℤ y)
 same-or-less (pos a) (pos b) h = elim (cases-eq a b) [ inl e ↦ inl (ap pos e) | inr n ↦ inr (omega (arith, ints)) ]
 same-or-less (pos a) (negsuc b) h = absurd (omega (arith, ints))
 same-or-less (negsuc a) (pos b) h = inr (omega (arith, ints))
@@ -76,7 +76,7 @@ module _ (t : Table) (l : Lawful t) (s v : ℕ) (station : v < stations t) where
   leaving i = at t (rank-connection t s i) .departure
 
   -- a reached label of v is a pair
-  reached-pair : (i n : ℕ) → Reaches t s i v n → Travels t s v (pos (leaving i)) (pos n)
+  pub reached-pair : (i n : ℕ) → Reaches t s i v n → Travels t s v (pos (leaving i)) (pos n)
   reached-pair i n a = by-case (a .comes)
     where
       by-case : ((v ≡ at t (last (a .first) (a .rest) .connection) .end .0) × (arrival t (last (a .first) (a .rest)) ≡ pos n)) ⊎ ((v ≡ connection-place t (last (a .first) (a .rest) .connection)) × (last (a .first) (a .rest) .moment ≡ pos n)) → Travels t s v (pos (leaving i)) (pos n)
@@ -101,69 +101,80 @@ module _ (t : Table) (l : Lawful t) (s v : ℕ) (station : v < stations t) where
       by-order : (a b c d : ℕ) → (ltb a b || (eqb a b && ltb c d)) ≡ true → a ≤ b
       by-order a b c d e = grind (arith, tells)
 
-  abbrev Found : ℤ → ℤ → Type 0
-  Found x y = (d : ℤ) × (a : ℤ) × LeadingPair t s v d a × (x ≤ℤ d) × (a ≤ℤ y)
+  module _ (done : List Entry) (st : State (ways t s) done []) where
+    -- a settled label of v that, moved by whole periods, departs no earlier than x and arrives no later than y
+    pub record Found (x y : ℤ) : Type 0 where
+      pub by : Entry
+      pub settled : Mem by done
+      pub place : by .place ≡ v
+      pub periods : ℤ
+      pub departs : x ≤ℤ moved t (leaving (by .rank)) periods
+      pub arrives : moved t (by .minute) periods ≤ℤ y
 
-  -- for a pair whose first ride, moved by −k periods, departs in the present period
-  found-now : (x y k : ℤ) (h : Travels t s v (x +ℤ negℤ k *ℤ pos (t .period)) (y +ℤ negℤ k *ℤ pos (t .period))) → h .first .moment ≡ pos (at t (h .first .connection) .departure) → Found x y
-  found-now x y k h now = (
-    moved t (leaving (b .by .rank)) k,
-    moved t (b .by .minute) k,
-    record { rank = b .by .rank; minute = b .by .minute; periods = k; leads = lead; departs = refl; arrives = refl },
-    omega (arith, ints, h .departs, now, ap (λ (c : ℕ). at t c .departure) (i .2), later-rank (i .0) (b .by .rank) (b .higher) (lead .label .reached .ranked), opposite k (t .period)),
-    omega (arith, ints, z .2, b .sooner, h .arrives, arrives-at, opposite k (t .period)),
-  )
-    where
-      d₀ : Departs t (h .first)
-      d₀ = h .is-itinerary .0
+    pub settled-leads : (e : Entry) → Mem e done → e .place ≡ v → Leads t s (e .rank) v (e .minute)
+    settled-leads e m q = subst (λ (p : ℕ). Leads t s (e .rank) p (e .minute)) q (found t l s done st e .0 m .0)
 
-      i : (i : ℕ) × (i < ranks t s) × (rank-connection t s i ≡ h .first .connection)
-      i = ordered t s .whole (h .first .connection) (d₀ .known) (and-from _ _ (d₀ .runs) (eq-eqb _ _ (h .starts)))
+    -- for a pair whose first ride, moved by −k periods, departs in the present period
+    found-now : (x y k : ℤ) (h : Travels t s v (x +ℤ negℤ k *ℤ pos (t .period)) (y +ℤ negℤ k *ℤ pos (t .period))) → h .first .moment ≡ pos (at t (h .first .connection) .departure) → Found x y
+    found-now x y k h now = record {
+      by = b .by;
+      settled = b .settled;
+      place = b .same;
+      periods = k;
+      departs = omega (arith, ints, h .departs, now, ap (λ (c : ℕ). at t c .departure) (i .2), later-rank (i .0) (b .by .rank) (b .higher) (settled-leads (b .by) (b .settled) (b .same) .label .reached .ranked), opposite k (t .period));
+      arrives = omega (arith, ints, z .2, b .sooner, h .arrives, arrives-at, opposite k (t .period));
+    }
+      where
+        d₀ : Departs t (h .first)
+        d₀ = h .is-itinerary .0
 
-      f : ℕ
-      f = rank-connection t s (i .0)
+        i : (i : ℕ) × (i < ranks t s) × (rank-connection t s i ≡ h .first .connection)
+        i = ordered t s .whole (h .first .connection) (d₀ .known) (and-from _ _ (d₀ .runs) (eq-eqb _ _ (h .starts)))
 
-      opens : h .first ≡ opening-ride t (rank-connection t s (i .0))
-      opens j = record { connection = sym (i .2) j; moment = (now ∙ ap (λ (c : ℕ). pos (at t c .departure)) (sym (i .2))) j }
+        opens : h .first ≡ opening-ride t (rank-connection t s (i .0))
+        opens j = record { connection = sym (i .2) j; moment = (now ∙ ap (λ (c : ℕ). pos (at t c .departure)) (sym (i .2))) j }
 
-      w : (m : ℕ) × (last (h .first) (h .rest) .moment ≡ pos m) × Reach t (rank-connection t s (i .0)) (last (h .first) (h .rest) .connection) m
-      w = bridge t l (rank-connection t s (i .0)) (last (h .first) (h .rest)) .0 (record { rest = h .rest; itinerary = subst (λ (r : Ride). Itinerary t (r ∷ h .rest)) opens (h .is-itinerary); ends = ap (λ (r : Ride). last r (h .rest)) (sym opens) })
+        w : (m : ℕ) × (last (h .first) (h .rest) .moment ≡ pos m) × Reach t (rank-connection t s (i .0)) (last (h .first) (h .rest) .connection) m
+        w = bridge t l (rank-connection t s (i .0)) (last (h .first) (h .rest)) .0 (record { rest = h .rest; itinerary = subst (λ (r : Ride). Itinerary t (r ∷ h .rest)) opens (h .is-itinerary); ends = ap (λ (r : Ride). last r (h .rest)) (sym opens) })
 
-      n : ℕ
-      n = w .0 + at t (last (h .first) (h .rest) .connection) .ride
+        n : ℕ
+        n = w .0 + at t (last (h .first) (h .rest) .connection) .ride
 
-      arrives-at : arrival t (last (h .first) (h .rest)) ≡ pos n
-      arrives-at = ap (λ (m : ℤ). m +ℤ pos (at t (last (h .first) (h .rest) .connection) .ride)) (w .1)
+        arrives-at : arrival t (last (h .first) (h .rest)) ≡ pos n
+        arrives-at = ap (λ (m : ℤ). m +ℤ pos (at t (last (h .first) (h .rest) .connection) .ride)) (w .1)
 
-      a : Reaches t s (i .0) v n
-      a = record { first = h .first; rest = h .rest; is-itinerary = h .is-itinerary; ranked = i .1; begins = sym (i .2); in-period = now; comes = inl (sym (h .ends), arrives-at) }
+        a : Reaches t s (i .0) v n
+        a = record { first = h .first; rest = h .rest; is-itinerary = h .is-itinerary; ranked = i .1; begins = sym (i .2); in-period = now; comes = inl (sym (h .ends), arrives-at) }
 
-      z : (m : ℕ) × Path (ways t s) (i .0) v m × (m ≤ n)
-      z = early-at t l s (i .0) v n a
+        z : (m : ℕ) × Path (ways t s) (i .0) v m × (m ≤ n)
+        z = early-at t l s (i .0) v n a
 
-      done : (l : List Entry) × State (ways t s) l []
-      done = finishes t l s
+        b : Met (ways t s) (forward t l s) done (ends (ways t s) (forward t l s) done (running t l s st)) (i .0) v (z .0)
+        b = met (ways t s) (forward t l s) done (ends (ways t s) (forward t l s) done (running t l s st)) (i .0) v (z .0) (z .1)
 
-      b : Met (ways t s) (forward t l s) (done .0) (ends (ways t s) (forward t l s) (done .0) (running t l s (done .1))) (i .0) v (z .0)
-      b = met (ways t s) (forward t l s) (done .0) (ends (ways t s) (forward t l s) (done .0) (running t l s (done .1))) (i .0) v (z .0) (z .1)
+    back : (z : ℤ) (n p : ℕ) (k : ℤ) → z ≡ pos n +ℤ k *ℤ pos p → z +ℤ negℤ k *ℤ pos p ≡ pos n
+    back z n p k e = omega (arith, ints, opposite k p)
 
-      lead : Leads t s (b .by .rank) v (b .by .minute)
-      lead = subst (λ (p : ℕ). Leads t s (b .by .rank) p (b .by .minute)) (b .same) (found t l s (done .0) (done .1) (b .by) .0 (b .settled) .0)
+    pub find : (x y : ℤ) → Travels t s v x y → Found x y
+    unfolding shift-travels
+    find x y h =
+        let r = h .is-itinerary .0 in
+        let k = r .periodic .0 in
+        found-now x y k (shift-travels t (negℤ k) s v x y h) (back (h .first .moment) (at t (h .first .connection) .departure) (t .period) k (r .periodic .1))
 
-  back : (z : ℤ) (n p : ℕ) (k : ℤ) → z ≡ pos n +ℤ k *ℤ pos p → z +ℤ negℤ k *ℤ pos p ≡ pos n
-  back z n p k e = omega (arith, ints, opposite k p)
+  abbrev Cover : ℤ → ℤ → Type 0
+  Cover x y = (d : ℤ) × (a : ℤ) × LeadingPair t s v d a × (x ≤ℤ d) × (a ≤ℤ y)
 
-  pub covered : (x y : ℤ) → Travels t s v x y → Found x y
-  unfolding shift-travels
+  pub covered : (x y : ℤ) → Travels t s v x y → Cover x y
   covered x y h =
-      let r = h .is-itinerary .0 in
-      let k = r .periodic .0 in
-      found-now x y k (shift-travels t (negℤ k) s v x y h) (back (h .first .moment) (at t (h .first .connection) .departure) (t .period) k (r .periodic .1))
+      let q = finishes t l s in
+      let f = find (q .0) (q .1) x y h in
+      (moved t (leaving (f .by .rank)) (f .periods), moved t (f .by .minute) (f .periods), record { rank = f .by .rank; minute = f .by .minute; periods = f .periods; leads = settled-leads (q .0) (q .1) (f .by) (f .settled) (f .place); departs = refl; arrives = refl }, f .departs, f .arrives)
 
   chosen : (d a : ℤ) → Unbeaten t s v d a → Chosen t s v d a
   chosen d a u = record { pair = pair′ (covered d a (u .travels)); unbeaten = λ d′ a′ h b. u .unbeaten d′ a′ (leading-travels d′ a′ h) b }
     where
-      pair′ : Found d a → LeadingPair t s v d a
+      pair′ : Cover d a → LeadingPair t s v d a
       pair′ (x, y, p, h, k) = by-case (same-or-less d x h) (same-or-less y a k)
         where
           by-case : (d ≡ x) ⊎ (d <ℤ x) → (y ≡ a) ⊎ (y <ℤ a) → LeadingPair t s v d a
@@ -174,7 +185,7 @@ module _ (t : Table) (l : Lawful t) (s v : ℕ) (station : v < stations t) where
   unbeaten : (d a : ℤ) → Chosen t s v d a → Unbeaten t s v d a
   unbeaten d a c = record { travels = leading-travels d a (c .pair); unbeaten = λ d′ a′ h b. none d′ a′ b (covered d′ a′ h) }
     where
-      none : (d′ a′ : ℤ) → Beats d′ a′ d a → Found d′ a′ → ⊥
+      none : (d′ a′ : ℤ) → Beats d′ a′ d a → Cover d′ a′ → ⊥
       none d′ a′ b (x, y, p, h, k) = c .unbeaten x y p (record {
         no-earlier = omega (arith, ints, b .no-earlier);
         no-later = omega (arith, ints, b .no-later);

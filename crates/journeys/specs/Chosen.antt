@@ -33,3 +33,15 @@ Pairs-chosen = (t : Table) → Lawful t → (s v : ℕ) → v < stations t → (
 -- for every itinerary a leading pair departs no earlier and arrives no later
 abbrev pub Pairs-cover : Type 0
 Pairs-cover = (t : Table) → Lawful t → (s v : ℕ) → v < stations t → (d a : ℤ) → Travels t s v d a → (d′ : ℤ) × (a′ : ℤ) × LeadingPair t s v d′ a′ × (d ≤ℤ d′) × (a′ ≤ℤ a)
+
+-- for every itinerary even an unbeaten pair does so
+abbrev pub Unbeaten-cover : Type 0
+Unbeaten-cover = (t : Table) → Lawful t → (s v : ℕ) → v < stations t → (d a : ℤ) → Travels t s v d a → (d′ : ℤ) × (a′ : ℤ) × Unbeaten t s v d′ a′ × (d ≤ℤ d′) × (a′ ≤ℤ a)
+
+-- where any itinerary leads to the target, an unbeaten pair departs in every period
+abbrev pub Unbeaten-always : Type 0
+Unbeaten-always = (t : Table) → Lawful t → (s v : ℕ) → v < stations t → (d a : ℤ) → Travels t s v d a → (k : ℤ) → (x : ℕ) × (y : ℤ) × (x < t .period) × Unbeaten t s v (moved t x k) y
+
+-- the first unbeaten pair at or after a moment arrives no later than any itinerary that leaves then or later
+abbrev pub First-unbeaten : Type 0
+First-unbeaten = (t : Table) → Lawful t → (s v : ℕ) → v < stations t → (n d a : ℤ) → Unbeaten t s v d a → n ≤ℤ d → ((d′ a′ : ℤ) → Unbeaten t s v d′ a′ → n ≤ℤ d′ → d ≤ℤ d′) → (d′ a′ : ℤ) → Travels t s v d′ a′ → n ≤ℤ d′ → a ≤ℤ a′

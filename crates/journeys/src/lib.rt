@@ -1,7 +1,7 @@
 //! The mathematics of the search: theorems about labels, first departures and the search as a relation, for any lawful
 //! timetable. Each is the contract of a function, so that the crate is not proved without it.
 
-ghost use Rattle.journeys.specs.Chosen.{Pairs-chosen, Pairs-cover};
+ghost use Rattle.journeys.specs.Chosen.{Pairs-chosen, Pairs-cover, Unbeaten-cover, Unbeaten-always, First-unbeaten};
 ghost use Rattle.journeys.specs.Paths.{Bridge};
 ghost use Rattle.journeys.specs.Queued.{Opening-begins, Leads-put, Search-finishes};
 ghost use Rattle.journeys.specs.Theorems.{First-departures, Next-first, Gives-monotone, Search-begins, Search-keeps, Search-ends, Search-found, Labels-small, Search-small};
@@ -88,4 +88,19 @@ pub fn pairs_are_covered()
 /// Following origins from a settled label, each step falls, and the rides met are an itinerary that reaches the label.
 pub fn origins_tell_itineraries()
     ensures { λ _. ⌜ Origins-tell ⌝ }
+{}
+
+/// For every itinerary an unbeaten pair departs no earlier and arrives no later.
+pub fn unbeaten_pairs_cover()
+    ensures { λ _. ⌜ Unbeaten-cover ⌝ }
+{}
+
+/// Where any itinerary leads to the target, an unbeaten pair departs in every period.
+pub fn unbeaten_pairs_always_depart()
+    ensures { λ _. ⌜ Unbeaten-always ⌝ }
+{}
+
+/// The first unbeaten pair at or after a moment arrives no later than any itinerary that leaves then or later.
+pub fn first_unbeaten_arrives_first()
+    ensures { λ _. ⌜ First-unbeaten ⌝ }
 {}

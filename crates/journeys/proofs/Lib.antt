@@ -14,3 +14,4 @@ pub mod Whole
 pub mod Pairs
 pub mod Traced
 pub mod Unbeaten
+pub mod Checking

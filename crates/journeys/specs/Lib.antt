@@ -4,3 +4,4 @@ pub mod Theorems
 pub mod Queued
 pub mod Chosen
 pub mod Trace
+pub mod Checked

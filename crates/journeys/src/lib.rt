@@ -1,6 +1,7 @@
 //! The mathematics of the search: theorems about labels, first departures and the search as a relation, for any lawful
 //! timetable. Each is the contract of a function, so that the crate is not proved without it.
 
+ghost use Rattle.journeys.specs.Checked.{Check-sound};
 ghost use Rattle.journeys.specs.Chosen.{Pairs-chosen, Pairs-cover, Unbeaten-cover, Unbeaten-always, First-unbeaten};
 ghost use Rattle.journeys.specs.Paths.{Bridge};
 ghost use Rattle.journeys.specs.Queued.{Opening-begins, Leads-put, Search-finishes};
@@ -103,4 +104,9 @@ pub fn unbeaten_pairs_always_depart()
 /// The first unbeaten pair at or after a moment arrives no later than any itinerary that leaves then or later.
 pub fn first_unbeaten_arrives_first()
     ensures { λ _. ⌜ First-unbeaten ⌝ }
+{}
+
+/// A list of labels that passes a check which computes is the list of the leading labels with their origins.
+pub fn check_is_sound()
+    ensures { λ _. ⌜ Check-sound ⌝ }
 {}

@@ -15,3 +15,4 @@ pub mod Pairs
 pub mod Traced
 pub mod Unbeaten
 pub mod Checking
+pub mod Examples

@@ -5,3 +5,4 @@ pub mod Queued
 pub mod Chosen
 pub mod Trace
 pub mod Checked
+pub mod Worked

@@ -7,6 +7,7 @@ ghost use Rattle.journeys.specs.Paths.{Bridge};
 ghost use Rattle.journeys.specs.Queued.{Opening-begins, Leads-put, Search-finishes};
 ghost use Rattle.journeys.specs.Theorems.{First-departures, Next-first, Gives-monotone, Search-begins, Search-keeps, Search-ends, Search-found, Labels-small, Search-small};
 ghost use Rattle.journeys.specs.Trace.{Origins-tell};
+ghost use Rattle.journeys.specs.Worked.{Worked};
 
 /// The first departures are the running connections that start at the source, each once, by departure and then by
 /// number.
@@ -109,4 +110,9 @@ pub fn first_unbeaten_arrives_first()
 /// A list of labels that passes a check which computes is the list of the leading labels with their origins.
 pub fn check_is_sound()
     ensures { λ _. ⌜ Check-sound ⌝ }
+{}
+
+/// The worked examples hold of the definitions.
+pub fn worked_examples()
+    ensures { λ _. ⌜ Worked ⌝ }
 {}

@@ -15,4 +15,5 @@ pub mod Pairs
 pub mod Traced
 pub mod Unbeaten
 pub mod Checking
+pub mod Profiled
 pub mod Examples

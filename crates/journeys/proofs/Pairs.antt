@@ -15,7 +15,7 @@ use Rattle.timetable.specs.Table.{Table, at, stations, connections, transfer, L
 use Rattle.timetable.specs.Itinerary.{Ride, arrival, Departs, Stays, Changes, Goes-on, Itinerary, last}
 use Rattle.timetable.specs.Pairs.{Travels, Beats, Unbeaten}
 use Rattle.timetable.specs.Labels.{leaves, sooner, ranks, rank-connection, connection-place, Reaches, Leads}
-use Rattle.journeys.specs.Search.{Entry, Mem, Path, State}
+use Rattle.journeys.specs.Search.{Entry, Mem, Path, Done}
 use Rattle.journeys.specs.Paths.{Journey, Reach, opening-ride}
 use Rattle.journeys.specs.Theorems.{ways}
 use Rattle.journeys.specs.Chosen.{moved, LeadingPair, Chosen, Pairs-chosen, Pairs-cover}
@@ -24,7 +24,7 @@ use Rattle.journeys.proofs.Firsts.{ordered, departing}
 use Rattle.journeys.proofs.Ways.{forward, early-at}
 use Rattle.journeys.proofs.Finished.{Met, met}
 use Rattle.journeys.proofs.Steps.{ends}
-use Rattle.journeys.proofs.Exactly.{running, found}
+use Rattle.journeys.proofs.Exactly.{running, exactly}
 use Rattle.journeys.proofs.Whole.{finishes}
 
 pub distribute : (a b : ℤ) (p : ℕ) → (a +ℤ b) *ℤ pos p ≡ a *ℤ pos p +ℤ b *ℤ pos p
@@ -38,6 +38,10 @@ same-or-less (pos a) (pos b) h = elim (cases-eq a b) [ inl e ↦ inl (ap pos e) 
 same-or-less (pos a) (negsuc b) h = absurd (omega (arith, ints))
 same-or-less (negsuc a) (pos b) h = inr (omega (arith, ints))
 same-or-less (negsuc a) (negsuc b) h = elim (cases-eq a b) [ inl e ↦ inl (ap negsuc e) | inr n ↦ inr (omega (arith, ints)) ]
+
+-- what some search has settled
+pub finished : (t : Table) → Lawful t → (s : ℕ) → (l : List Entry) × Done (ways t s) l
+finished t l s = let q = finishes t l s in (q .0, ends (ways t s) (forward t l s) (q .0) (running t l s (q .1)))
 
 -- ---- itineraries moved by k periods
 
@@ -101,7 +105,7 @@ module _ (t : Table) (l : Lawful t) (s v : ℕ) (station : v < stations t) where
       by-order : (a b c d : ℕ) → (ltb a b || (eqb a b && ltb c d)) ≡ true → a ≤ b
       by-order a b c d e = grind (arith, tells)
 
-  module _ (done : List Entry) (st : State (ways t s) done []) where
+  module _ (done : List Entry) (fin : Done (ways t s) done) where
     -- a settled label of v that, moved by whole periods, departs no earlier than x and arrives no later than y
     pub record Found (x y : ℤ) : Type 0 where
       pub by : Entry
@@ -112,7 +116,7 @@ module _ (t : Table) (l : Lawful t) (s v : ℕ) (station : v < stations t) where
       pub arrives : moved t (by .minute) periods ≤ℤ y
 
     pub settled-leads : (e : Entry) → Mem e done → e .place ≡ v → Leads t s (e .rank) v (e .minute)
-    settled-leads e m q = subst (λ (p : ℕ). Leads t s (e .rank) p (e .minute)) q (found t l s done st e .0 m .0)
+    settled-leads e m q = subst (λ (p : ℕ). Leads t s (e .rank) p (e .minute)) q (exactly t l s done fin e .0 m .0)
 
     -- for a pair whose first ride, moved by −k periods, departs in the present period
     found-now : (x y k : ℤ) (h : Travels t s v (x +ℤ negℤ k *ℤ pos (t .period)) (y +ℤ negℤ k *ℤ pos (t .period))) → h .first .moment ≡ pos (at t (h .first .connection) .departure) → Found x y
@@ -149,8 +153,8 @@ module _ (t : Table) (l : Lawful t) (s v : ℕ) (station : v < stations t) where
         z : (m : ℕ) × Path (ways t s) (i .0) v m × (m ≤ n)
         z = early-at t l s (i .0) v n a
 
-        b : Met (ways t s) (forward t l s) done (ends (ways t s) (forward t l s) done (running t l s st)) (i .0) v (z .0)
-        b = met (ways t s) (forward t l s) done (ends (ways t s) (forward t l s) done (running t l s st)) (i .0) v (z .0) (z .1)
+        b : Met (ways t s) (forward t l s) done fin (i .0) v (z .0)
+        b = met (ways t s) (forward t l s) done fin (i .0) v (z .0) (z .1)
 
     back : (z : ℤ) (n p : ℕ) (k : ℤ) → z ≡ pos n +ℤ k *ℤ pos p → z +ℤ negℤ k *ℤ pos p ≡ pos n
     back z n p k e = omega (arith, ints, opposite k p)
@@ -167,7 +171,7 @@ module _ (t : Table) (l : Lawful t) (s v : ℕ) (station : v < stations t) where
 
   pub covered : (x y : ℤ) → Travels t s v x y → Cover x y
   covered x y h =
-      let q = finishes t l s in
+      let q = finished t l s in
       let f = find (q .0) (q .1) x y h in
       (moved t (leaving (f .by .rank)) (f .periods), moved t (f .by .minute) (f .periods), record { rank = f .by .rank; minute = f .by .minute; periods = f .periods; leads = settled-leads (q .0) (q .1) (f .by) (f .settled) (f .place); departs = refl; arrives = refl }, f .departs, f .arrives)
 

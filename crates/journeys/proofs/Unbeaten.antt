@@ -13,7 +13,7 @@ use Rattle.std.proofs.shelf.Tests.{and-from, and-parts, eq-eqb, eqb-true, le-le
 use Rattle.timetable.specs.Table.{Table, at, stations, Lawful}
 use Rattle.timetable.specs.Pairs.{Travels, Beats, Unbeaten}
 use Rattle.timetable.specs.Labels.{rank-connection}
-use Rattle.journeys.specs.Search.{Entry, Mem, here, there, State}
+use Rattle.journeys.specs.Search.{Entry, Mem, here, there, Done}
 use Rattle.journeys.specs.Theorems.{ways}
 use Rattle.journeys.specs.Chosen.{moved, Unbeaten-cover, Unbeaten-always, First-unbeaten}
 use Rattle.journeys.proofs.Clock.{after, after-is, after-least, leaves, times}
@@ -21,14 +21,13 @@ use Rattle.journeys.proofs.Walk.{low}
 use Rattle.journeys.proofs.Firsts.{ordered}
 use Rattle.journeys.proofs.Ways.{labels}
 use Rattle.journeys.proofs.Exactly.{not-before}
-use Rattle.journeys.proofs.Pairs.{distribute, opposite, same-or-less, shift-travels, reached-pair, Found, settled-leads, find}
-use Rattle.journeys.proofs.Whole.{finishes}
+use Rattle.journeys.proofs.Pairs.{distribute, opposite, same-or-less, shift-travels, reached-pair, Found, settled-leads, find, finished}
 
 -- of the entries of a list that pass a test, one with the least value
 record Least (p : Entry → Bool) (f : Entry → ℕ) (l : List Entry) : Type 0 where
   e : Entry
   in-it : Mem e l
-  passes : p e ≡ true
+  pub passes : p e ≡ true
   least : (g : Entry) → Mem g l → p g ≡ true → f e ≤ f g
 
 module _ (p : Entry → Bool) (f : Entry → ℕ) where
@@ -67,11 +66,11 @@ module _ (p : Entry → Bool) (f : Entry → ℕ) where
           none g (there m) q = n g m q
 
 module _ (t : Table) (l : Lawful t) (s v : ℕ) (station : v < stations t) where
-  abbrev leaving : Entry → ℕ
+  abbrev pub leaving : Entry → ℕ
   leaving e = at t (rank-connection t s (e .rank)) .departure
 
   -- an unbeaten pair, moved by whole periods
-  moved-unbeaten : (k : ℤ) (d a : ℤ) → Unbeaten t s v d a → Unbeaten t s v (d +ℤ k *ℤ pos (t .period)) (a +ℤ k *ℤ pos (t .period))
+  pub moved-unbeaten : (k : ℤ) (d a : ℤ) → Unbeaten t s v d a → Unbeaten t s v (d +ℤ k *ℤ pos (t .period)) (a +ℤ k *ℤ pos (t .period))
   moved-unbeaten k d a u = record {
     travels = shift-travels t k s v d a (u .travels);
     unbeaten = λ d′ a′ h b. u .unbeaten (d′ +ℤ negℤ k *ℤ pos (t .period)) (a′ +ℤ negℤ k *ℤ pos (t .period)) (shift-travels t (negℤ k) s v d′ a′ h) (record {
@@ -81,30 +80,30 @@ module _ (t : Table) (l : Lawful t) (s v : ℕ) (station : v < stations t) where
     });
   }
 
-  module _ (done : List Entry) (st : State (ways t s) done []) where
+  module _ (done : List Entry) (fin : Done (ways t s) done) where
     -- how long a settled label travels
-    abbrev length-of : Entry → ℕ
+    abbrev pub length-of : Entry → ℕ
     length-of e = e .minute - leaving e
 
-    leaves-first : (e : Entry) → Mem e done → e .place ≡ v → leaving e ≤ e .minute
-    leaves-first e m q = not-before t l s (e .rank) (labels t l s (e .rank) v (e .minute) .1 (settled-leads t l s v station done st e m q .label) .reached)
+    pub leaves-first : (e : Entry) → Mem e done → e .place ≡ v → leaving e ≤ e .minute
+    leaves-first e m q = not-before t l s (e .rank) (labels t l s (e .rank) v (e .minute) .1 (settled-leads t l s v station done fin e m q .label) .reached)
 
-    low-at : (e : Entry) → Mem e done → e .place ≡ v → leaving e < t .period
-    low-at e m q = low t l (rank-connection t s (e .rank)) (ordered t s .sound (e .rank) (settled-leads t l s v station done st e m q .label .reached .ranked) .0)
+    pub low-at : (e : Entry) → Mem e done → e .place ≡ v → leaving e < t .period
+    low-at e m q = low t l (rank-connection t s (e .rank)) (ordered t s .sound (e .rank) (settled-leads t l s v station done fin e m q .label .reached .ranked) .0)
 
     -- its first departure at or after minute n, and the arrival then
-    abbrev next : ℕ → Entry → ℕ
+    abbrev pub next : ℕ → Entry → ℕ
     next n e = after (leaving e) (t .period) n
 
-    abbrev covers : ℕ → ℕ → Entry → Bool
+    abbrev pub covers : ℕ → ℕ → Entry → Bool
     covers n m e = eqb (e .place) v && leb (next n e + length-of e) m
 
-    at-zero : (x : ℤ) (n : ℕ) → pos n ≤ℤ x → (m : ℕ) × (x ≡ pos m) × (n ≤ m)
+    pub at-zero : (x : ℤ) (n : ℕ) → pos n ≤ℤ x → (m : ℕ) × (x ≡ pos m) × (n ≤ m)
     at-zero (pos m) n h = (m, refl, omega (arith, ints))
     at-zero (negsuc m) n h = absurd (omega (arith, ints))
 
     -- what covers a pair from n on to m passes the test
-    passes : (n m : ℕ) (x y : ℤ) → pos n ≤ℤ x → y ≤ℤ pos m → (f : Found t l s v station done st x y) → covers n m (f .by) ≡ true
+    pub passes : (n m : ℕ) (x y : ℤ) → pos n ≤ℤ x → y ≤ℤ pos m → (f : Found t l s v station done fin x y) → covers n m (f .by) ≡ true
     passes n m x y hx hy f =
         let e = f .by in
         let lo = leaves-first e (f .settled) (f .place) in
@@ -115,7 +114,7 @@ module _ (t : Table) (l : Lawful t) (s v : ℕ) (station : v < stations t) where
         and-from _ _ (eq-eqb _ _ (f .place)) (le-leb _ _ (omega (arith, ints, z .1, f .arrives)))
 
     -- the pair of a settled label at its first departure from n on
-    travels-at : (n : ℕ) (e : Entry) → Mem e done → e .place ≡ v → Travels t s v (pos (next n e)) (pos (next n e + length-of e))
+    pub travels-at : (n : ℕ) (e : Entry) → Mem e done → e .place ≡ v → Travels t s v (pos (next n e)) (pos (next n e + length-of e))
     travels-at n e m q = by-case (after-is (leaving e) (t .period) (low-at e m q) n)
       where
         so : (j : ℕ) → next n e ≡ leaving e + t .period * j → Travels t s v (pos (next n e)) (pos (next n e + length-of e))
@@ -123,7 +122,7 @@ module _ (t : Table) (l : Lawful t) (s v : ℕ) (station : v < stations t) where
             let lo = leaves-first e m q in
             let d : pos (leaving e) +ℤ pos j *ℤ pos (t .period) ≡ pos (next n e) = ap pos (omega arith) in
             let a : pos (e .minute) +ℤ pos j *ℤ pos (t .period) ≡ pos (next n e + length-of e) = ap pos (omega arith) in
-            rw (d, a) at (shift-travels t (pos j) s v (pos (leaving e)) (pos (e .minute)) (reached-pair t l s v station (e .rank) (e .minute) (settled-leads t l s v station done st e m q .label .reached)))
+            rw (d, a) at (shift-travels t (pos j) s v (pos (leaving e)) (pos (e .minute)) (reached-pair t l s v station (e .rank) (e .minute) (settled-leads t l s v station done fin e m q .label .reached)))
 
         by-case : ((n % t .period ≤ leaving e) × (next n e ≡ leaving e + t .period * (n / t .period))) ⊎ ((leaving e < n % t .period) × (next n e ≡ leaving e + t .period * (n / t .period + 1))) → Travels t s v (pos (next n e)) (pos (next n e + length-of e))
         by-case (inl h) = so (n / t .period) (h .1)
@@ -135,8 +134,8 @@ module _ (t : Table) (l : Lawful t) (s v : ℕ) (station : v < stations t) where
     cover : (n m : ℕ) → Travels t s v (pos n) (pos m) → Cover n m
     cover n m h = by-case (least (covers n m) length-of done)
       where
-        f : Found t l s v station done st (pos n) (pos m)
-        f = find t l s v station done st (pos n) (pos m) h
+        f : Found t l s v station done fin (pos n) (pos m)
+        f = find t l s v station done fin (pos n) (pos m) h
 
         by-case : Least (covers n m) length-of done ⊎ ((g : Entry) → Mem g done → covers n m g ≡ true → ⊥) → Cover n m
         by-case (inr none) = absurd (none (f .by) (f .settled) (passes n m (pos n) (pos m) (omega (arith, ints)) (omega (arith, ints)) f))
@@ -150,7 +149,7 @@ module _ (t : Table) (l : Lawful t) (s v : ℕ) (station : v < stations t) where
 
             none : (d′ a′ : ℤ) → Travels t s v d′ a′ → Beats d′ a′ (pos (next n (b .e))) (pos (next n (b .e) + length-of (b .e))) → ⊥
             none d′ a′ h′ w =
-                let g = find t l s v station done st d′ a′ h′ in
+                let g = find t l s v station done fin d′ a′ h′ in
                 let lo = leaves-first (g .by) (g .settled) (g .place) in
                 let c = b .least (g .by) (g .settled) (passes n m d′ a′ (omega (arith, ints, w .no-earlier)) (omega (arith, ints, w .no-later, fits)) g) in
                 w .differs (omega (arith, ints, g .departs, g .arrives, w .no-earlier, w .no-later), omega (arith, ints, g .departs, g .arrives, w .no-earlier, w .no-later))
@@ -177,16 +176,10 @@ module _ (t : Table) (l : Lawful t) (s v : ℕ) (station : v < stations t) where
     pub no-later : arrives ≤ℤ y
 
   pub cover-all : (x y : ℤ) → Travels t s v x y → Covered x y
-  cover-all x y h = on (cover done st n (m .0) (rw (nx .1, m .1) at h′))
+  cover-all x y h = on (cover (q .0) (q .1) n (m .0) (rw (nx .1, m .1) at h′))
     where
-      q : (l : List Entry) × State (ways t s) l []
-      q = finishes t l s
-
-      done : List Entry
-      done = q .0
-
-      st : State (ways t s) (q .0) []
-      st = q .1
+      q : (l : List Entry) × Done (ways t s) l
+      q = finished t l s
 
       k : ℤ
       k = pos (lift x)

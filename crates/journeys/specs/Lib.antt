@@ -5,4 +5,5 @@ pub mod Queued
 pub mod Chosen
 pub mod Trace
 pub mod Checked
+pub mod Profiles
 pub mod Worked

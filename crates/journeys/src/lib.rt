@@ -4,6 +4,7 @@
 ghost use Rattle.journeys.specs.Checked.{Check-sound};
 ghost use Rattle.journeys.specs.Chosen.{Pairs-chosen, Pairs-cover, Unbeaten-cover, Unbeaten-always, First-unbeaten};
 ghost use Rattle.journeys.specs.Paths.{Bridge};
+ghost use Rattle.journeys.specs.Profiles.{Profile-sound};
 ghost use Rattle.journeys.specs.Queued.{Opening-begins, Leads-put, Search-finishes};
 ghost use Rattle.journeys.specs.Theorems.{First-departures, Next-first, Gives-monotone, Search-begins, Search-keeps, Search-ends, Search-found, Labels-small, Search-small};
 ghost use Rattle.journeys.specs.Trace.{Origins-tell};
@@ -110,6 +111,11 @@ pub fn first_unbeaten_arrives_first()
 /// A list of labels that passes a check which computes is the list of the leading labels with their origins.
 pub fn check_is_sound()
     ensures { λ _. ⌜ Check-sound ⌝ }
+{}
+
+/// The labels of a target that pass a check which computes are its unbeaten pairs.
+pub fn profile_check_is_sound()
+    ensures { λ _. ⌜ Profile-sound ⌝ }
 {}
 
 /// The worked examples hold of the definitions.

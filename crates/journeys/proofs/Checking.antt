@@ -21,7 +21,7 @@ all-at p [] h e m = elim m [ ]
 all-at p (x ∷ l) h e here = and-parts (p x) (all-of p l) h .0
 all-at p (x ∷ l) h e (there m) = all-at p l (and-parts (p x) (all-of p l) h .1) e m
 
-any-at : (p : Entry → Bool) (l : List Entry) → any-of p l ≡ true → (e : Entry) × Mem e l × (p e ≡ true)
+pub any-at : (p : Entry → Bool) (l : List Entry) → any-of p l ≡ true → (e : Entry) × Mem e l × (p e ≡ true)
 any-at p [] h = absurd (both-ways false refl h)
 any-at p (x ∷ l) h = elim (or-cases (p x) (any-of p l) h) [ inl q ↦ (x, here, q) | inr q ↦ (let z = any-at p l q in (z .0, there (z .1), z .2)) ]
 

@@ -1,17 +1,17 @@
 -- The unbeaten pairs by a check that computes over the settled labels.
 use mathlib.Core.Path.{_≡_}
-use mathlib.Core.List.{List}
-use mathlib.Core.Bool.{Bool, true, not, _&&_, _||_}
-use mathlib.Core.Logic.{_↔_}
-use Prim.Native.Nat.{ℕ, _+_, _-_, _≤_, _<_}
+use mathlib.Core.List.{List, [], _∷_}
+use mathlib.Core.Bool.{Bool, true, false, not, _&&_, _||_}
+use mathlib.Core.Logic.{_⊎_, _↔_}
+use Prim.Native.Nat.{ℕ, _+_, _-_, _%_, _≤_, _<_}
 use lib.Dec.{eqb, leb}
 use lib.IntN.{ℤ, pos}
 use lib.Signed.{_≤ℤ_}
-use Rattle.timetable.specs.Table.{Table, Lawful, at, stations, next-departure}
+use Rattle.timetable.specs.Table.{Table, Lawful, at, stations, ahead, next-departure}
 use Rattle.timetable.specs.Pairs.{Unbeaten}
 use Rattle.timetable.specs.Labels.{rank-connection}
 use Rattle.journeys.specs.Search.{Entry, Mem}
-use Rattle.journeys.specs.Checked.{all-of, complete}
+use Rattle.journeys.specs.Checked.{all-of, any-of, complete}
 
 -- the departure of a label's rank, in the present period
 abbrev pub leaving-of : Table → ℕ → Entry → ℕ
@@ -47,3 +47,42 @@ pub record First-at (t : Table) (s v : ℕ) (n d a : ℤ) : Type 0 where
   pub unbeaten : Unbeaten t s v d a
   pub late-enough : n ≤ℤ d
   pub first : (d′ a′ : ℤ) → Unbeaten t s v d′ a′ → n ≤ℤ d′ → d ≤ℤ d′
+
+-- ---- profiles and arrivals as lists of pairs
+
+abbrev pub Among : ℕ → ℤ → List (ℕ × ℕ) → Type 0
+Among x y [] = ⊥
+Among x y (p ∷ ps) = ((x ≡ p .0) × (y ≡ pos (p .1))) ⊎ Among x y ps
+
+-- these are the unbeaten pairs that depart in the present period
+abbrev pub Profile-is : Table → ℕ → ℕ → List (ℕ × ℕ) → Type 0
+Profile-is t s v ps = (x : ℕ) (y : ℤ) → x < t .period → Unbeaten t s v (pos x) y ↔ Among x y ps
+
+abbrev pub pair-of : Table → ℕ → Entry → ℕ × ℕ → Bool
+pair-of t s e p = eqb (leaving-of t s e) (p .0) && eqb (e .minute) (p .1)
+
+abbrev pub any-pair : (ℕ × ℕ → Bool) → List (ℕ × ℕ) → Bool
+any-pair q [] = false
+any-pair q (p ∷ ps) = q p || any-pair q ps
+
+abbrev pub all-pairs : (ℕ × ℕ → Bool) → List (ℕ × ℕ) → Bool
+all-pairs q [] = true
+all-pairs q (p ∷ ps) = q p && all-pairs q ps
+
+-- the labels that pass have these pairs
+abbrev pub profile-check : Table → ℕ → ℕ → List Entry → List (ℕ × ℕ) → Bool
+profile-check t s v l ps =
+    all-of (λ e. not (unbeaten-in t s v l e) || any-pair (pair-of t s e) ps) l
+    && all-pairs (λ p. any-of (λ e. unbeaten-in t s v l e && pair-of t s e p) l) ps
+
+abbrev pub Profile-checked : Type 0
+Profile-checked = (t : Table) → Lawful t → (s v : ℕ) → v < stations t → (l : List Entry) → complete t s l ≡ true → (ps : List (ℕ × ℕ)) → profile-check t s v l ps ≡ true → Profile-is t s v ps
+
+-- (d, a) is one of the pairs, moved by whole periods, and no pair departs at n or later and before d
+abbrev pub arrival-check : ℕ → List (ℕ × ℕ) → ℕ → ℕ → ℕ → Bool
+arrival-check period ps n d a =
+    any-pair (λ p. eqb (d % period) (p .0) && eqb (a + p .0) (p .1 + d)) ps
+    && (leb n d && all-pairs (λ p. leb d (n + ahead period n (p .0))) ps)
+
+abbrev pub Arrival-checked : Type 0
+Arrival-checked = (t : Table) → Lawful t → (s v : ℕ) → v < stations t → (ps : List (ℕ × ℕ)) → Profile-is t s v ps → (n d a : ℕ) → arrival-check (t .period) ps n d a ≡ true → First-at t s v (pos n) (pos d) (pos a)

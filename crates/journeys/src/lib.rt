@@ -4,7 +4,7 @@
 ghost use Rattle.journeys.specs.Checked.{Check-sound};
 ghost use Rattle.journeys.specs.Chosen.{Pairs-chosen, Pairs-cover, Unbeaten-cover, Unbeaten-always, First-unbeaten};
 ghost use Rattle.journeys.specs.Paths.{Bridge};
-ghost use Rattle.journeys.specs.Profiles.{Profile-sound};
+ghost use Rattle.journeys.specs.Profiles.{Profile-sound, Profile-checked, Arrival-checked};
 ghost use Rattle.journeys.specs.Queued.{Opening-begins, Leads-put, Search-finishes};
 ghost use Rattle.journeys.specs.Theorems.{First-departures, Next-first, Gives-monotone, Search-begins, Search-keeps, Search-ends, Search-found, Labels-small, Search-small};
 ghost use Rattle.journeys.specs.Trace.{Origins-tell};
@@ -116,6 +116,16 @@ pub fn check_is_sound()
 /// The labels of a target that pass a check which computes are its unbeaten pairs.
 pub fn profile_check_is_sound()
     ensures { λ _. ⌜ Profile-sound ⌝ }
+{}
+
+/// A list of pairs that passes the check is the profile of its target.
+pub fn profiles_are_checked()
+    ensures { λ _. ⌜ Profile-checked ⌝ }
+{}
+
+/// A pair that passes the check is the first unbeaten pair at or after its minute.
+pub fn arrivals_are_checked()
+    ensures { λ _. ⌜ Arrival-checked ⌝ }
 {}
 
 /// The worked examples hold of the definitions.

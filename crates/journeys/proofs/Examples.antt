@@ -1,14 +1,17 @@
--- The worked examples, by the check.
+-- The worked examples, by the checks.
 use mathlib.Core.Path.{_≡_, refl}
 use mathlib.Core.Bool.{true}
+use mathlib.Core.List.{[], _∷_}
 use Prim.Native.Nat.{ℕ, zero, suc, _+_, _≤_, _<_}
 use native.Mathlib.Omega.{arith}
 use Rattle.timetable.specs.Table.{Lawful, LawfulConnection, at, connections, stations, transfer}
 use Rattle.timetable.specs.Labels.{inserted, firsts-below, ranks}
 use Rattle.timetable.specs.Examples.{timetable-a, timetable-b}
 use Rattle.journeys.specs.Checked.{complete}
-use Rattle.journeys.specs.Worked.{labels-a, labels-b, Worked}
+use Rattle.journeys.specs.Profiles.{profile-check, Profile-is}
+use Rattle.journeys.specs.Worked.{a-late, a-cancelled, labels-a, labels-b, labels-late, labels-cancelled, Worked}
 use Rattle.journeys.proofs.Checking.{check-sound}
+use Rattle.journeys.proofs.Profiled.{profile-checked, arrival-checked}
 
 each-a : (c : ℕ) → c < connections timetable-a → LawfulConnection timetable-a (at timetable-a c)
 each-a zero h = record { train-known = omega arith; start-known = omega arith; end-known = omega arith; moves = λ e. omega arith; in-period = omega arith; ride-low = omega arith; ride-high = omega arith }
@@ -41,10 +44,10 @@ on-a (suc (suc (suc zero))) h e = absurd (omega arith)
 on-a (suc (suc (suc (suc zero)))) h e = absurd (omega arith)
 on-a (suc (suc (suc (suc (suc c))))) h e = absurd (omega arith)
 
-pub lawful-a : Lawful timetable-a
+lawful-a : Lawful timetable-a
 lawful-a = record { period-low = omega arith; period-high = omega arith; stations-low = omega arith; stations-high = omega arith; trains-high = omega arith; connections-high = omega arith; transfer-high = transfers-a; each = each-a; trains-rise = rise-a; goes-on = on-a }
 
-pub complete-a : complete timetable-a 0 labels-a ≡ true
+complete-a : complete timetable-a 0 labels-a ≡ true
 unfolding inserted firsts-below
 complete-a = refl
 
@@ -70,10 +73,10 @@ on-b : (c : ℕ) → c + 1 < connections timetable-b → at timetable-b c .train
 on-b zero h e = absurd (omega arith)
 on-b (suc c) h e = absurd (omega arith)
 
-pub lawful-b : Lawful timetable-b
+lawful-b : Lawful timetable-b
 lawful-b = record { period-low = omega arith; period-high = omega arith; stations-low = omega arith; stations-high = omega arith; trains-high = omega arith; connections-high = omega arith; transfer-high = transfers-b; each = each-b; trains-rise = rise-b; goes-on = on-b }
 
-pub complete-b : complete timetable-b 0 labels-b ≡ true
+complete-b : complete timetable-b 0 labels-b ≡ true
 unfolding inserted firsts-below
 complete-b = refl
 
@@ -81,14 +84,136 @@ ranks-b : ranks timetable-b 0 ≡ 2
 unfolding inserted firsts-below
 ranks-b = refl
 
+each-late : (c : ℕ) → c < connections a-late → LawfulConnection a-late (at a-late c)
+each-late zero h = record { train-known = omega arith; start-known = omega arith; end-known = omega arith; moves = λ e. omega arith; in-period = omega arith; ride-low = omega arith; ride-high = omega arith }
+each-late (suc zero) h = record { train-known = omega arith; start-known = omega arith; end-known = omega arith; moves = λ e. omega arith; in-period = omega arith; ride-low = omega arith; ride-high = omega arith }
+each-late (suc (suc zero)) h = record { train-known = omega arith; start-known = omega arith; end-known = omega arith; moves = λ e. omega arith; in-period = omega arith; ride-low = omega arith; ride-high = omega arith }
+each-late (suc (suc (suc zero))) h = record { train-known = omega arith; start-known = omega arith; end-known = omega arith; moves = λ e. omega arith; in-period = omega arith; ride-low = omega arith; ride-high = omega arith }
+each-late (suc (suc (suc (suc zero)))) h = record { train-known = omega arith; start-known = omega arith; end-known = omega arith; moves = λ e. omega arith; in-period = omega arith; ride-low = omega arith; ride-high = omega arith }
+each-late (suc (suc (suc (suc (suc zero))))) h = record { train-known = omega arith; start-known = omega arith; end-known = omega arith; moves = λ e. omega arith; in-period = omega arith; ride-low = omega arith; ride-high = omega arith }
+each-late (suc (suc (suc (suc (suc (suc c)))))) h = absurd (omega arith)
+
+transfers-late : (v : ℕ) → v < stations a-late → transfer a-late v ≤ 1440
+transfers-late zero h = omega arith
+transfers-late (suc zero) h = omega arith
+transfers-late (suc (suc zero)) h = omega arith
+transfers-late (suc (suc (suc v))) h = absurd (omega arith)
+
+rise-late : (c : ℕ) → c + 1 < connections a-late → at a-late c .train .0 ≤ at a-late (c + 1) .train .0
+rise-late zero h = omega arith
+rise-late (suc zero) h = omega arith
+rise-late (suc (suc zero)) h = omega arith
+rise-late (suc (suc (suc zero))) h = omega arith
+rise-late (suc (suc (suc (suc zero)))) h = omega arith
+rise-late (suc (suc (suc (suc (suc c))))) h = absurd (omega arith)
+
+on-late : (c : ℕ) → c + 1 < connections a-late → at a-late c .train .0 ≡ at a-late (c + 1) .train .0 → at a-late c .end .0 ≡ at a-late (c + 1) .start .0
+on-late zero h e = refl
+on-late (suc zero) h e = absurd (omega arith)
+on-late (suc (suc zero)) h e = absurd (omega arith)
+on-late (suc (suc (suc zero))) h e = absurd (omega arith)
+on-late (suc (suc (suc (suc zero)))) h e = absurd (omega arith)
+on-late (suc (suc (suc (suc (suc c))))) h e = absurd (omega arith)
+
+lawful-late : Lawful a-late
+lawful-late = record { period-low = omega arith; period-high = omega arith; stations-low = omega arith; stations-high = omega arith; trains-high = omega arith; connections-high = omega arith; transfer-high = transfers-late; each = each-late; trains-rise = rise-late; goes-on = on-late }
+
+complete-late : complete a-late 0 labels-late ≡ true
+unfolding inserted firsts-below
+complete-late = refl
+
+ranks-late : ranks a-late 0 ≡ 3
+unfolding inserted firsts-below
+ranks-late = refl
+
+each-cancelled : (c : ℕ) → c < connections a-cancelled → LawfulConnection a-cancelled (at a-cancelled c)
+each-cancelled zero h = record { train-known = omega arith; start-known = omega arith; end-known = omega arith; moves = λ e. omega arith; in-period = omega arith; ride-low = omega arith; ride-high = omega arith }
+each-cancelled (suc zero) h = record { train-known = omega arith; start-known = omega arith; end-known = omega arith; moves = λ e. omega arith; in-period = omega arith; ride-low = omega arith; ride-high = omega arith }
+each-cancelled (suc (suc zero)) h = record { train-known = omega arith; start-known = omega arith; end-known = omega arith; moves = λ e. omega arith; in-period = omega arith; ride-low = omega arith; ride-high = omega arith }
+each-cancelled (suc (suc (suc zero))) h = record { train-known = omega arith; start-known = omega arith; end-known = omega arith; moves = λ e. omega arith; in-period = omega arith; ride-low = omega arith; ride-high = omega arith }
+each-cancelled (suc (suc (suc (suc zero)))) h = record { train-known = omega arith; start-known = omega arith; end-known = omega arith; moves = λ e. omega arith; in-period = omega arith; ride-low = omega arith; ride-high = omega arith }
+each-cancelled (suc (suc (suc (suc (suc zero))))) h = record { train-known = omega arith; start-known = omega arith; end-known = omega arith; moves = λ e. omega arith; in-period = omega arith; ride-low = omega arith; ride-high = omega arith }
+each-cancelled (suc (suc (suc (suc (suc (suc c)))))) h = absurd (omega arith)
+
+transfers-cancelled : (v : ℕ) → v < stations a-cancelled → transfer a-cancelled v ≤ 1440
+transfers-cancelled zero h = omega arith
+transfers-cancelled (suc zero) h = omega arith
+transfers-cancelled (suc (suc zero)) h = omega arith
+transfers-cancelled (suc (suc (suc v))) h = absurd (omega arith)
+
+rise-cancelled : (c : ℕ) → c + 1 < connections a-cancelled → at a-cancelled c .train .0 ≤ at a-cancelled (c + 1) .train .0
+rise-cancelled zero h = omega arith
+rise-cancelled (suc zero) h = omega arith
+rise-cancelled (suc (suc zero)) h = omega arith
+rise-cancelled (suc (suc (suc zero))) h = omega arith
+rise-cancelled (suc (suc (suc (suc zero)))) h = omega arith
+rise-cancelled (suc (suc (suc (suc (suc c))))) h = absurd (omega arith)
+
+on-cancelled : (c : ℕ) → c + 1 < connections a-cancelled → at a-cancelled c .train .0 ≡ at a-cancelled (c + 1) .train .0 → at a-cancelled c .end .0 ≡ at a-cancelled (c + 1) .start .0
+on-cancelled zero h e = refl
+on-cancelled (suc zero) h e = absurd (omega arith)
+on-cancelled (suc (suc zero)) h e = absurd (omega arith)
+on-cancelled (suc (suc (suc zero))) h e = absurd (omega arith)
+on-cancelled (suc (suc (suc (suc zero)))) h e = absurd (omega arith)
+on-cancelled (suc (suc (suc (suc (suc c))))) h e = absurd (omega arith)
+
+lawful-cancelled : Lawful a-cancelled
+lawful-cancelled = record { period-low = omega arith; period-high = omega arith; stations-low = omega arith; stations-high = omega arith; trains-high = omega arith; connections-high = omega arith; transfer-high = transfers-cancelled; each = each-cancelled; trains-rise = rise-cancelled; goes-on = on-cancelled }
+
+complete-cancelled : complete a-cancelled 0 labels-cancelled ≡ true
+unfolding inserted firsts-below
+complete-cancelled = refl
+
+ranks-cancelled : ranks a-cancelled 0 ≡ 2
+unfolding inserted firsts-below
+ranks-cancelled = refl
+
+passes-a-2 : profile-check timetable-a 0 2 labels-a ((490, 535) ∷ (1430, 1470) ∷ []) ≡ true
+unfolding inserted firsts-below
+passes-a-2 = refl
+
+profile-a-2 : Profile-is timetable-a 0 2 ((490, 535) ∷ (1430, 1470) ∷ [])
+profile-a-2 = profile-checked timetable-a lawful-a 0 2 (omega arith) labels-a complete-a ((490, 535) ∷ (1430, 1470) ∷ []) passes-a-2
+
+passes-a-1 : profile-check timetable-a 0 1 labels-a ((490, 500) ∷ []) ≡ true
+unfolding inserted firsts-below
+passes-a-1 = refl
+
+profile-a-1 : Profile-is timetable-a 0 1 ((490, 500) ∷ [])
+profile-a-1 = profile-checked timetable-a lawful-a 0 1 (omega arith) labels-a complete-a ((490, 500) ∷ []) passes-a-1
+
+passes-late-2 : profile-check a-late 0 2 labels-late ((490, 530) ∷ (1430, 1470) ∷ []) ≡ true
+unfolding inserted firsts-below
+passes-late-2 = refl
+
+profile-late-2 : Profile-is a-late 0 2 ((490, 530) ∷ (1430, 1470) ∷ [])
+profile-late-2 = profile-checked a-late lawful-late 0 2 (omega arith) labels-late complete-late ((490, 530) ∷ (1430, 1470) ∷ []) passes-late-2
+
+passes-cancelled-2 : profile-check a-cancelled 0 2 labels-cancelled ((480, 535) ∷ (1430, 1470) ∷ []) ≡ true
+unfolding inserted firsts-below
+passes-cancelled-2 = refl
+
+profile-cancelled-2 : Profile-is a-cancelled 0 2 ((480, 535) ∷ (1430, 1470) ∷ [])
+profile-cancelled-2 = profile-checked a-cancelled lawful-cancelled 0 2 (omega arith) labels-cancelled complete-cancelled ((480, 535) ∷ (1430, 1470) ∷ []) passes-cancelled-2
+
+passes-b-1 : profile-check timetable-b 0 1 labels-b ((5, 15) ∷ []) ≡ true
+unfolding inserted firsts-below
+passes-b-1 = refl
+
+profile-b-1 : Profile-is timetable-b 0 1 ((5, 15) ∷ [])
+profile-b-1 = profile-checked timetable-b lawful-b 0 1 (omega arith) labels-b complete-b ((5, 15) ∷ []) passes-b-1
+
 pub worked : Worked
 worked = record {
-  a-lawful = lawful-a;
-  a-departures = ranks-a;
-  a-labels = check-sound timetable-a lawful-a 0 labels-a complete-a;
-  a-count = refl;
-  b-lawful = lawful-b;
-  b-departures = ranks-b;
-  b-labels = check-sound timetable-b lawful-b 0 labels-b complete-b;
-  b-count = refl;
+  a = record { lawful = lawful-a; departures-are = ranks-a; labels-are = check-sound timetable-a lawful-a 0 labels-a complete-a; count = refl };
+  a-profile-2 = profile-a-2;
+  a-profile-1 = profile-a-1;
+  a-arrive-490 = arrival-checked timetable-a lawful-a 0 2 (omega arith) ((490, 535) ∷ (1430, 1470) ∷ []) profile-a-2 490 490 535 refl;
+  a-arrive-491 = arrival-checked timetable-a lawful-a 0 2 (omega arith) ((490, 535) ∷ (1430, 1470) ∷ []) profile-a-2 491 1430 1470 refl;
+  a-arrive-1431 = arrival-checked timetable-a lawful-a 0 2 (omega arith) ((490, 535) ∷ (1430, 1470) ∷ []) profile-a-2 1431 1930 1975 refl;
+  late-profile-2 = profile-late-2;
+  cancelled-arrive-480 = arrival-checked a-cancelled lawful-cancelled 0 2 (omega arith) ((480, 535) ∷ (1430, 1470) ∷ []) profile-cancelled-2 480 480 535 refl;
+  b = record { lawful = lawful-b; departures-are = ranks-b; labels-are = check-sound timetable-b lawful-b 0 labels-b complete-b; count = refl };
+  b-profile-1 = profile-b-1;
+  b-arrive-50 = arrival-checked timetable-b lawful-b 0 1 (omega arith) ((5, 15) ∷ []) profile-b-1 50 65 75 refl;
 }

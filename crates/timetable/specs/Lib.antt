@@ -3,4 +3,5 @@ pub mod Itinerary
 pub mod Pairs
 pub mod Labels
 pub mod Rows
+pub mod Noticed
 pub mod Examples

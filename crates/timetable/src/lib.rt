@@ -8,6 +8,7 @@ pub mod connection;
 pub mod interface;
 pub mod label;
 pub mod numbers;
+pub mod report;
 
 pub use asking::connection_at;
 pub use asking::transfer_at;
@@ -18,3 +19,4 @@ pub use label::Label;
 pub use numbers::ConnectionNo;
 pub use numbers::Station;
 pub use numbers::Train;
+pub use report::Report;

@@ -9,22 +9,25 @@ use native.Mathlib.Decide.{decLt}
 use native.Mathlib.Nat.{mod-eq-of-lt}
 use lib.IntN.{ℤ, pos, _+ℤ_}
 use lib.Signed.{_≤ℤ_}
-use lib.Dec.{ltb}
+use lib.Dec.{ltb, leb}
 use borrow.Author.Differences.{ints}
-use Rattle.std.proofs.shelf.Tests.{cond-true, cond-false, lt-ltb, le-ltb}
+use Rattle.std.proofs.shelf.Tests.{cond-true, cond-false, lt-ltb, le-ltb, le-leb, lt-leb}
 use Rattle.timetable.specs.Table.{Table, at, stations, connections, transfer, stand, Lawful}
 use Rattle.timetable.specs.Itinerary.{Ride, arrival, Departs, Stays, Changes, Goes-on, Itinerary, last}
-use Rattle.timetable.specs.Labels.{rank-connection, connection-place, places, Gives, by-ride, by-stay, by-change, IsFirstRide}
+use Rattle.timetable.specs.Legs.{leg-of, boarded, Legs, ends, stays, changes}
+use Rattle.timetable.specs.Labels.{rank-connection, connection-place, places, Gives, by-ride, by-stay, by-change, IsFirstRide, IsLabel, IsOrigin}
+use Rattle.timetable.specs.declared.leg.Leg.{Leg}
 use Rattle.journeys.specs.Search.{Entry, Mem, Done, Ground, nowhere}
 use Rattle.journeys.specs.Paths.{Runs}
 use Rattle.journeys.specs.Theorems.{ways}
-use Rattle.journeys.specs.Trace.{Chain, from, back, rides-of, Tells, depth, Origins-tell}
+use Rattle.journeys.specs.Theorems.{Settled-exactly}
+use Rattle.journeys.specs.Trace.{Chain, from, back, rides-of, Tells, depth, extended, aboard, legs-of, Told, Origins-tell}
 use Rattle.journeys.proofs.Clock.{times, departs-pos, pos-departs, runs-known}
 use Rattle.journeys.proofs.Walk.{low, snoc, snoc-last, stood}
 use Rattle.journeys.proofs.Firsts.{ordered, departing}
 use Rattle.journeys.proofs.Ways.{forward, next-first}
-use Rattle.journeys.proofs.Steps.{ends}
-use Rattle.journeys.proofs.Exactly.{running}
+use Rattle.journeys.proofs.Steps.{ends as finished-so}
+use Rattle.journeys.proofs.Exactly.{running, exactly}
 
 module _ (t : Table) (l : Lawful t) (s : ℕ) where
   abbrev ride : ℕ → ℕ → Ride
@@ -118,9 +121,124 @@ module _ (t : Table) (l : Lawful t) (s : ℕ) where
       (pos-departs t c (e .minute) runs (ap (λ (x : ℕ). x % t .period) n ∙ f .0))
       (inr (record { meets = sym a ∙ w .0; in-time = rw (← w .0, w .1) (omega (arith, ints, n, f .1)) }))
 
-  tells : (done : List Entry) (e : Entry) (es : List Entry) → Chain t s done e es → Tells t s e (rides-of t es)
-  tells done e es (from _ m f o) = tells-first e f
-  tells done e es (back _ g gs m r p k h c) = tells-on e g gs r h (tells done g gs c)
+  -- ---- legs
+
+  some-legs : {r : Ride} {rs : List Ride} → Legs t r rs [] → ⊥
+  some-legs h = elim h [ ]
+
+  -- one more ride at the end, aboard the same train
+  legs-stay : {r : Ride} {rs : List Ride} {gs : List Leg} (d m : ℕ) → Legs t r rs gs → Stays t (last r rs) (ride d m) → Legs t r (rs ++ (ride d m ∷ [])) (extended d (m + at t d .ride) gs)
+  legs-stay d m (ends c n) st = stays c n st (ends d m)
+  legs-stay d m (stays c n {s = y} {rest} {g} {gs} st h) e = on gs (legs-stay d m h e)
+    where
+      on : (gs : List Leg) → Legs t y (rest ++ (ride d m ∷ [])) (extended d (m + at t d .ride) (g ∷ gs)) → Legs t (ride c n) (y ∷ (rest ++ (ride d m ∷ []))) (extended d (m + at t d .ride) (boarded t c n g ∷ gs))
+      on [] k = stays c n st k
+      on (g′ ∷ gs) k = stays c n st k
+  legs-stay d m (changes c n {s = y} {rest} {gs} st h) e = on gs h (legs-stay d m h e)
+    where
+      on : (gs : List Leg) → Legs t y rest gs → Legs t y (rest ++ (ride d m ∷ [])) (extended d (m + at t d .ride) gs) → Legs t (ride c n) (y ∷ (rest ++ (ride d m ∷ []))) (extended d (m + at t d .ride) (leg-of t c n ∷ gs))
+      on [] h k = absurd (some-legs h)
+      on (g ∷ gs) h k = changes c n st k
+
+  -- or after a change
+  legs-change : {r : Ride} {rs : List Ride} {gs : List Leg} (d m : ℕ) → Legs t r rs gs → (Stays t (last r rs) (ride d m) → ⊥) → Legs t r (rs ++ (ride d m ∷ [])) (gs ++ (leg-of t d m ∷ []))
+  legs-change d m (ends c n) st = changes c n st (ends d m)
+  legs-change d m (stays c n st h) e = stays c n st (legs-change d m h e)
+  legs-change d m (changes c n st h) e = changes c n st (legs-change d m h e)
+
+  legs-at-station : (e : Entry) (es : List Entry) → e .place < stations t → legs-of t (e ∷ es) ≡ legs-of t es
+  legs-at-station e es h = cond-true (ltb (e .place) (stations t)) (legs-of t es) _ (lt-ltb (e .place) (stations t) h)
+
+  legs-aboard : (e g : Entry) (es : List Entry) (c : ℕ) → e .place ≡ stations t + c → stations t ≤ g .place → legs-of t (e ∷ g ∷ es) ≡ extended c (e .minute + at t c .ride) (legs-of t (g ∷ es))
+  legs-aboard e g es c h k =
+      cond-false (ltb (e .place) (stations t)) (legs-of t (g ∷ es)) _ (le-ltb (e .place) (stations t) (omega arith))
+      ∙ cond-true (leb (stations t) (g .place)) _ _ (le-leb (stations t) (g .place) k)
+      ∙ ap (λ (x : ℕ). extended x (e .minute + at t x .ride) (legs-of t (g ∷ es))) (omega arith)
+
+  legs-changed : (e g : Entry) (es : List Entry) (c : ℕ) → e .place ≡ stations t + c → g .place < stations t → legs-of t (e ∷ g ∷ es) ≡ legs-of t (g ∷ es) ++ (leg-of t c (e .minute) ∷ [])
+  legs-changed e g es c h k =
+      cond-false (ltb (e .place) (stations t)) (legs-of t (g ∷ es)) _ (le-ltb (e .place) (stations t) (omega arith))
+      ∙ cond-false (leb (stations t) (g .place)) _ _ (lt-leb (stations t) (g .place) k)
+      ∙ ap (λ (x : ℕ). legs-of t (g ∷ es) ++ (leg-of t x (e .minute) ∷ [])) (omega arith)
+
+  legs-first : (e : Entry) (c : ℕ) → e .place ≡ stations t + c → legs-of t (e ∷ []) ≡ leg-of t c (e .minute) ∷ []
+  legs-first e c h = cond-false (ltb (e .place) (stations t)) [] _ (le-ltb (e .place) (stations t) (omega arith)) ∙ ap (λ (x : ℕ). leg-of t x (e .minute) ∷ []) (omega arith)
+
+  -- a change over a station is never a stay: the connection left would be a higher origin
+  no-disguise : (done : List Entry) (x : Settled-exactly t s done) (e g h : Entry) (c d : ℕ) → Mem e done → Mem h done → h .rank ≡ e .rank → h .place ≡ stations t + c → e .place ≡ stations t + d → e .origin ≡ g .place → g .place < stations t → Runs t d → Stays t (ride c (h .minute)) (ride d (e .minute)) → ⊥
+  no-disguise done x e g h c d me mh r pc pd o k runs st = by-case (x e .0 me .1)
+    where
+      minute-of : pos (e .minute) ≡ pos (h .minute) +ℤ pos (at t c .ride) +ℤ pos (stand t c d) → e .minute ≡ h .minute + at t c .ride + stand t c d
+      minute-of q = omega (arith, ints)
+
+      by-case : IsOrigin t s (e .rank) (e .place) (e .minute) (e .origin) → ⊥
+      by-case (inl f) = omega (arith, f .1, l .stations-high)
+      by-case (inr f) =
+          let lb : IsLabel t s (e .rank) (h .place) (h .minute) = subst (λ (i : ℕ). IsLabel t s i (h .place) (h .minute)) r (x h .0 mh .0 .label) in
+          omega (arith, f .highest (h .place) (h .minute) lb (by-stay c d (st .aboard) runs pc pd (minute-of (st .stands))))
+
+  module _ (done : List Entry) (x : Settled-exactly t s done) where
+    -- the settled entry of the last ride z, which arrives where g is
+    record Left (g : Entry) (z : Ride) : Type 0 where
+      h : Entry
+      c : ℕ
+      settled : Mem h done
+      rank : h .rank ≡ g .rank
+      place : h .place ≡ stations t + c
+      is : z ≡ ride c (h .minute)
+
+    -- what a chain tells, with the legs
+    record Tale (e : Entry) (es : List Entry) : Type 0 where
+      tale : Tells t s e (rides-of t es)
+      legs : Legs t (tale .first) (tale .rest) (legs-of t es)
+      left : e .place < stations t → Left e (last (tale .first) (tale .rest))
+
+    tale-first : (e : Entry) → IsFirstRide t s (e .rank) (e .place) (e .minute) → Tale e (e ∷ [])
+    unfolding tells-first
+    tale-first e f = record {
+      tale = tells-first e f;
+      legs = subst (Legs t (ride (rank-connection t s (e .rank)) (e .minute)) []) (sym (legs-first e (rank-connection t s (e .rank)) (f .place))) (ends (rank-connection t s (e .rank)) (e .minute));
+      left = λ k. absurd (omega (arith, f .place));
+    }
+
+    tale-on : (e g : Entry) (es : List Entry) (r : g .rank ≡ e .rank) → Gives t (g .place) (g .minute) (e .place) (e .minute) → Mem e done → Mem g done → g .place ≡ e .origin → Tale g (g ∷ es) → Tale e (e ∷ g ∷ es)
+    unfolding tells-on add
+    tale-on e g es r (by-ride c k a b n) me mg o T =
+        let w = at-connection g (rides-of t (g ∷ es)) (T .tale) c a in
+        record {
+          tale = tells-on e g (g ∷ es) r (by-ride c k a b n) (T .tale);
+          legs = subst (Legs t (T .tale .first) (T .tale .rest)) (sym (legs-at-station e (g ∷ es) (omega (arith, l .each c k .end-known)))) (T .legs);
+          left = λ _. record { h = g; c = c; settled = mg; rank = r; place = a; is = λ i. record { connection = w .0 i; moment = w .1 i } };
+        }
+    tale-on e g es r (by-stay c d f runs a b n) me mg o T =
+        let w = at-connection g (rides-of t (g ∷ es)) (T .tale) c a in
+        record {
+          tale = tells-on e g (g ∷ es) r (by-stay c d f runs a b n) (T .tale);
+          legs = subst (Legs t (T .tale .first) (T .tale .rest ++ (ride d (e .minute) ∷ []))) (sym (legs-aboard e g es d b (omega arith)))
+              (legs-stay d (e .minute) (T .legs) (as-ride (λ y. Stays t y (ride d (e .minute))) (last (T .tale .first) (T .tale .rest)) c (g .minute) (w .0) (w .1) (record { aboard = f; stands = ap pos n })));
+          left = λ k. absurd (omega arith);
+        }
+    tale-on e g es r (by-change c k runs a b n) me mg o T =
+        let low-g : g .place < stations t = omega (arith, l .each c k .start-known) in
+        let q = T .left low-g in
+        record {
+          tale = tells-on e g (g ∷ es) r (by-change c k runs a b n) (T .tale);
+          legs = subst (Legs t (T .tale .first) (T .tale .rest ++ (ride c (e .minute) ∷ []))) (sym (legs-changed e g es c b low-g))
+              (legs-change c (e .minute) (T .legs) (λ st. no-disguise done x e g (q .h) (q .c) c me (q .settled) (q .rank ∙ r) (q .place) b (sym o) low-g runs (subst (λ y. Stays t y (ride c (e .minute))) (q .is) st)));
+          left = λ z. absurd (omega arith);
+        }
+
+    chain-settled : (e : Entry) (es : List Entry) → Chain t s done e es → Mem e done
+    chain-settled e es (from _ m f o) = m
+    chain-settled e es (back _ g gs m r p k h c) = m
+
+    tale-of : (e : Entry) (es : List Entry) → Chain t s done e es → Tale e es
+    tale-of e es (from _ m f o) = tale-first e f
+    tale-of e es (back _ g gs m r p k h c) = with-head gs c (tale-of g gs c)
+      where
+        with-head : (gs : List Entry) → Chain t s done g gs → Tale g gs → Tale e (e ∷ gs)
+        with-head gs (from _ m′ f o) T = tale-on e g [] r h m m′ p T
+        with-head gs (back _ g′ gy m′ r′ p′ k′ h′ c′) T = tale-on e g gy r h m m′ p T
 
   -- the chain, by the depth that falls
   deeper : (a b N p q : ℕ) → a ≤ b → (a ≡ b → p < q) → p < N → a * N + p < b * N + q
@@ -145,6 +263,7 @@ module _ (t : Table) (l : Lawful t) (s : ℕ) where
 
 pub origins-tell : Origins-tell
 origins-tell t l s done st e m =
-    let d = ends (ways t s) (forward t l s) done (running t l s st) in
+    let d = finished-so (ways t s) (forward t l s) done (running t l s st) in
     let c = chain t l s done d (depth t e + 1) e m (omega arith) in
-    (c .0, c .1, tells t l s done e (c .0) (c .1))
+    let w = tale-of t l s done (exactly t l s done d) e (c .0) (c .1) in
+    record { entries = c .0; chain = c .1; tells = w .tale; legs = w .legs }

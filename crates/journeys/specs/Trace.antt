@@ -1,13 +1,15 @@
 -- The itinerary that the origins of a settled label tell.
 use mathlib.Core.Path.{_≡_}
 use mathlib.Core.List.{List, [], _∷_, _++_}
-use mathlib.Core.Bool.{cond}
+use mathlib.Core.Bool.{Bool, false, cond}
 use mathlib.Core.Logic.{_⊎_}
 use Prim.Native.Nat.{ℕ, _+_, _-_, _*_, _<_}
 use lib.IntN.{pos}
-use lib.Dec.{ltb}
+use lib.Dec.{ltb, leb}
 use Rattle.timetable.specs.Table.{Table, at, stations, Lawful}
 use Rattle.timetable.specs.Itinerary.{Ride, arrival, Itinerary, last}
+use Rattle.timetable.specs.Legs.{leg-of, Legs}
+use Rattle.timetable.specs.declared.leg.Leg.{Leg}
 use Rattle.timetable.specs.Labels.{rank-connection, connection-place, places}
 use Rattle.journeys.specs.Search.{Entry, Mem, Ways, State, nowhere}
 use Rattle.journeys.specs.Theorems.{ways}
@@ -38,6 +40,33 @@ pub record Tells (t : Table) (s : ℕ) (e : Entry) (rides : List Ride) : Type 0 
       ((e .place ≡ at t (last first rest .connection) .end .0) × (arrival t (last first rest) ≡ pos (e .minute)))
       ⊎ ((e .place ≡ connection-place t (last first rest .connection)) × (last first rest .moment ≡ pos (e .minute)))
 
--- from every label that a finished search has settled, the origins lead back to a first ride, and tell an itinerary
+-- the legs that a chain tells: a step from connection to connection stays aboard, one over a station changes
+abbrev pub extended : ℕ → ℕ → List Leg → List Leg
+extended c a [] = []
+extended c a (g ∷ []) = record { train = g .train; first = g .first; last = record { 0 = c }; departure = g .departure; arrival = a } ∷ []
+extended c a (g ∷ h ∷ gs) = g ∷ extended c a (h ∷ gs)
+
+-- the first entry, if any, is of a connection
+abbrev pub aboard : Table → List Entry → Bool
+aboard t [] = false
+aboard t (e ∷ es) = leb (stations t) (e .place)
+
+abbrev pub legs-of : Table → List Entry → List Leg
+legs-of t [] = []
+legs-of t (e ∷ es) =
+    cond (ltb (e .place) (stations t))
+    (legs-of t es)
+    (cond (aboard t es)
+    (extended (e .place - stations t) (e .minute + at t (e .place - stations t) .ride) (legs-of t es))
+    (legs-of t es ++ (leg-of t (e .place - stations t) (e .minute) ∷ [])))
+
+-- from every label that a finished search has settled, the origins lead back to a first ride, tell an itinerary, and tell
+-- its legs
+pub record Told (t : Table) (s : ℕ) (l : List Entry) (e : Entry) : Type 0 where
+  pub entries : List Entry
+  pub chain : Chain t s l e entries
+  pub tells : Tells t s e (rides-of t entries)
+  pub legs : Legs t (tells .first) (tells .rest) (legs-of t entries)
+
 abbrev pub Origins-tell : Type 0
-Origins-tell = (t : Table) → Lawful t → (s : ℕ) (l : List Entry) → State (ways t s) l [] → (e : Entry) → Mem e l → (es : List Entry) × Chain t s l e es × Tells t s e (rides-of t es)
+Origins-tell = (t : Table) → Lawful t → (s : ℕ) (l : List Entry) → State (ways t s) l [] → (e : Entry) → Mem e l → Told t s l e

@@ -1,5 +1,6 @@
 pub mod Table
 pub mod Itinerary
+pub mod Legs
 pub mod Pairs
 pub mod Labels
 pub mod Rows

@@ -7,6 +7,7 @@ pub mod asking;
 pub mod connection;
 pub mod interface;
 pub mod label;
+pub mod leg;
 pub mod numbers;
 pub mod report;
 
@@ -16,6 +17,7 @@ pub use connection::Connection;
 pub use interface::Means;
 pub use interface::Timetable;
 pub use label::Label;
+pub use leg::Leg;
 pub use numbers::ConnectionNo;
 pub use numbers::Station;
 pub use numbers::Train;

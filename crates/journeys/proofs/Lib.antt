@@ -11,6 +11,7 @@ pub mod Small
 pub mod Sizes
 pub mod Queued
 pub mod Whole
+pub mod Puts
 pub mod Pairs
 pub mod Traced
 pub mod Unbeaten

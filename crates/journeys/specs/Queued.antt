@@ -47,3 +47,16 @@ Leads-put = (t : Table) → Lawful t → (s : ℕ) (x : Entry) (rest : List Entr
 -- every search can be brought to its end
 abbrev pub Search-finishes : Type 0
 Search-finishes = (t : Table) → Lawful t → (s : ℕ) → (l : List Entry) × State (ways t s) l []
+
+-- how many entries a search has ever put when it has settled the labels l: the first rides, and for each of l what it
+-- leads to
+abbrev pub led : Table → List Entry → ℕ
+led t [] = 0
+led t (e ∷ l) = length (leads t e) + led t l
+
+abbrev pub ever-put : Table → ℕ → List Entry → ℕ
+ever-put t s l = length (opening t s) + led t l
+
+-- at most first departures × (3 × connections + 1)
+abbrev pub Search-puts-few : Type 0
+Search-puts-few = (t : Table) → Lawful t → (s : ℕ) (l queue : List Entry) → State (ways t s) l queue → ever-put t s l ≤ ranks t s * (3 * connections t + 1)

@@ -5,7 +5,7 @@ ghost use Rattle.journeys.specs.Checked.{Check-sound};
 ghost use Rattle.journeys.specs.Chosen.{Pairs-chosen, Pairs-cover, Unbeaten-cover, Unbeaten-always, First-unbeaten};
 ghost use Rattle.journeys.specs.Paths.{Bridge};
 ghost use Rattle.journeys.specs.Profiles.{Profile-sound, Profile-checked, Arrival-checked};
-ghost use Rattle.journeys.specs.Queued.{Opening-begins, Leads-put, Search-finishes};
+ghost use Rattle.journeys.specs.Queued.{Opening-begins, Leads-put, Search-finishes, Search-puts-few};
 ghost use Rattle.journeys.specs.Theorems.{First-departures, Next-first, Gives-monotone, Search-begins, Search-keeps, Search-ends, Search-found, Labels-small, Search-small};
 ghost use Rattle.journeys.specs.Trace.{Origins-tell};
 ghost use Rattle.journeys.specs.Worked.{Worked};
@@ -75,6 +75,11 @@ pub fn leads_are_put()
 /// Every search can be brought to its end.
 pub fn searches_finish()
     ensures { λ _. ⌜ Search-finishes ⌝ }
+{}
+
+/// A search never puts more than first departures × (3 × connections + 1) entries.
+pub fn searches_put_few()
+    ensures { λ _. ⌜ Search-puts-few ⌝ }
 {}
 
 /// The unbeaten pairs of all itineraries are the pairs of departures and leading labels, moved by whole periods, that none of

@@ -1,15 +1,20 @@
 -- The worked examples, by the checks.
-use mathlib.Core.Path.{_≡_, refl}
+use mathlib.Core.Path.{_≡_, refl, ap}
 use mathlib.Core.Bool.{true}
 use mathlib.Core.List.{[], _∷_}
 use Prim.Native.Nat.{ℕ, zero, suc, _+_, _≤_, _<_}
+use mathlib.Core.Logic.{inl, inr}
 use native.Mathlib.Omega.{arith}
+use lib.IntN.{pos}
+use borrow.Author.Differences.{ints}
 use Rattle.timetable.specs.Table.{Lawful, LawfulConnection, at, connections, stations, transfer}
+use Rattle.timetable.specs.Itinerary.{Departs, Stays}
+use Rattle.timetable.specs.Legs.{ride-at, ends, stays, changes}
 use Rattle.timetable.specs.Labels.{inserted, firsts-below, ranks}
 use Rattle.timetable.specs.Examples.{timetable-a, timetable-b}
 use Rattle.journeys.specs.Checked.{complete}
-use Rattle.journeys.specs.Profiles.{profile-check, Profile-is}
-use Rattle.journeys.specs.Worked.{a-late, a-cancelled, labels-a, labels-b, labels-late, labels-cancelled, Worked}
+use Rattle.journeys.specs.Profiles.{profile-check, Profile-is, Journey-is}
+use Rattle.journeys.specs.Worked.{leg, a-late, a-cancelled, labels-a, labels-b, labels-late, labels-cancelled, Worked}
 use Rattle.journeys.proofs.Checking.{check-sound}
 use Rattle.journeys.proofs.Profiled.{profile-checked, arrival-checked}
 
@@ -203,6 +208,51 @@ passes-b-1 = refl
 profile-b-1 : Profile-is timetable-b 0 1 ((5, 15) ∷ [])
 profile-b-1 = profile-checked timetable-b lawful-b 0 1 (omega arith) labels-b complete-b ((5, 15) ∷ []) passes-b-1
 
+departs-a : (c : ℕ) → c < connections timetable-a → at timetable-a c .runs ≡ true → Departs timetable-a (ride-at c (at timetable-a c .departure))
+departs-a c k r = record { known = k; runs = r; periodic = (pos 0, ap pos (omega arith)) }
+
+departs-cancelled : (c : ℕ) → c < connections a-cancelled → at a-cancelled c .runs ≡ true → Departs a-cancelled (ride-at c (at a-cancelled c .departure))
+departs-cancelled c k r = record { known = k; runs = r; periodic = (pos 0, ap pos (omega arith)) }
+
+-- a change from train 1 to train 0
+journey-490 : Journey-is timetable-a 0 2 (pos 490) (leg 1 2 2 490 500 ∷ leg 0 1 1 505 535 ∷ [])
+journey-490 = record {
+  departs = pos 490;
+  arrives = pos 535;
+  pair = arrival-checked timetable-a lawful-a 0 2 (omega arith) ((490, 535) ∷ (1430, 1470) ∷ []) profile-a-2 490 490 535 refl;
+  travels = record {
+    first = ride-at 2 490;
+    rest = ride-at 1 505 ∷ [];
+    is-itinerary = (departs-a 2 (omega arith) refl, (departs-a 1 (omega arith) refl, inr (record { meets = refl; in-time = omega (arith, ints) }), tt));
+    starts = refl;
+    ends = refl;
+    departs = refl;
+    arrives = refl;
+  };
+  legs = changes 2 490 (λ st. omega (arith, st .aboard .next)) (ends 1 505);
+}
+
+-- a stay on train 0
+journey-480 : Journey-is a-cancelled 0 2 (pos 480) (leg 0 0 1 480 535 ∷ [])
+journey-480 = record {
+  departs = pos 480;
+  arrives = pos 535;
+  pair = arrival-checked a-cancelled lawful-cancelled 0 2 (omega arith) ((480, 535) ∷ (1430, 1470) ∷ []) profile-cancelled-2 480 480 535 refl;
+  travels = record {
+    first = ride-at 0 480;
+    rest = ride-at 1 505 ∷ [];
+    is-itinerary = (departs-cancelled 0 (omega arith) refl, (departs-cancelled 1 (omega arith) refl, inl aboard, tt));
+    starts = refl;
+    ends = refl;
+    departs = refl;
+    arrives = refl;
+  };
+  legs = stays 0 480 aboard (ends 1 505);
+}
+  where
+    aboard : Stays a-cancelled (ride-at 0 480) (ride-at 1 505)
+    aboard = record { aboard = record { next = refl; there = omega arith; same-train = refl }; stands = refl }
+
 pub worked : Worked
 worked = record {
   a = record { lawful = lawful-a; departures-are = ranks-a; labels-are = check-sound timetable-a lawful-a 0 labels-a complete-a; count = refl };
@@ -211,8 +261,9 @@ worked = record {
   a-arrive-490 = arrival-checked timetable-a lawful-a 0 2 (omega arith) ((490, 535) ∷ (1430, 1470) ∷ []) profile-a-2 490 490 535 refl;
   a-arrive-491 = arrival-checked timetable-a lawful-a 0 2 (omega arith) ((490, 535) ∷ (1430, 1470) ∷ []) profile-a-2 491 1430 1470 refl;
   a-arrive-1431 = arrival-checked timetable-a lawful-a 0 2 (omega arith) ((490, 535) ∷ (1430, 1470) ∷ []) profile-a-2 1431 1930 1975 refl;
+  a-journey-490 = journey-490;
   late-profile-2 = profile-late-2;
-  cancelled-arrive-480 = arrival-checked a-cancelled lawful-cancelled 0 2 (omega arith) ((480, 535) ∷ (1430, 1470) ∷ []) profile-cancelled-2 480 480 535 refl;
+  cancelled-journey-480 = journey-480;
   b = record { lawful = lawful-b; departures-are = ranks-b; labels-are = check-sound timetable-b lawful-b 0 labels-b complete-b; count = refl };
   b-profile-1 = profile-b-1;
   b-arrive-50 = arrival-checked timetable-b lawful-b 0 1 (omega arith) ((5, 15) ∷ []) profile-b-1 50 65 75 refl;

@@ -8,7 +8,9 @@ use lib.Dec.{eqb, leb}
 use lib.IntN.{ℤ, pos}
 use lib.Signed.{_≤ℤ_}
 use Rattle.timetable.specs.Table.{Table, Lawful, at, stations, ahead, next-departure}
-use Rattle.timetable.specs.Pairs.{Unbeaten}
+use Rattle.timetable.specs.Pairs.{Travels, Unbeaten}
+use Rattle.timetable.specs.Legs.{Legs}
+use Rattle.timetable.specs.declared.leg.Leg.{Leg}
 use Rattle.timetable.specs.Labels.{rank-connection}
 use Rattle.journeys.specs.Search.{Entry, Mem}
 use Rattle.journeys.specs.Checked.{all-of, any-of, complete}
@@ -86,3 +88,11 @@ arrival-check period ps n d a =
 
 abbrev pub Arrival-checked : Type 0
 Arrival-checked = (t : Table) → Lawful t → (s v : ℕ) → v < stations t → (ps : List (ℕ × ℕ)) → Profile-is t s v ps → (n d a : ℕ) → arrival-check (t .period) ps n d a ≡ true → First-at t s v (pos n) (pos d) (pos a)
+
+-- the legs of an itinerary that has the first unbeaten pair at or after a moment
+pub record Journey-is (t : Table) (s v : ℕ) (n : ℤ) (gs : List Leg) : Type 0 where
+  pub departs : ℤ
+  pub arrives : ℤ
+  pub pair : First-at t s v n departs arrives
+  pub travels : Travels t s v departs arrives
+  pub legs : Legs t (travels .first) (travels .rest) gs

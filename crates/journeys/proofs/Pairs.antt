@@ -138,8 +138,8 @@ module _ (t : Table) (l : Lawful t) (s v : ℕ) (station : v < stations t) where
         opens : h .first ≡ opening-ride t (rank-connection t s (i .0))
         opens j = record { connection = sym (i .2) j; moment = (now ∙ ap (λ (c : ℕ). pos (at t c .departure)) (sym (i .2))) j }
 
-        w : (m : ℕ) × (last (h .first) (h .rest) .moment ≡ pos m) × Reach t (rank-connection t s (i .0)) (last (h .first) (h .rest) .connection) m
-        w = bridge t l (rank-connection t s (i .0)) (last (h .first) (h .rest)) .0 (record { rest = h .rest; itinerary = subst (λ (r : Ride). Itinerary t (r ∷ h .rest)) opens (h .is-itinerary); ends = ap (λ (r : Ride). last r (h .rest)) (sym opens) })
+        w : (m : ℕ) × (last (h .first) (h .rest) .moment ≡ pos m) × Reach t (rank-connection t s (i .0)) (at t (rank-connection t s (i .0)) .departure) (last (h .first) (h .rest) .connection) m
+        w = bridge t l (rank-connection t s (i .0)) (at t (rank-connection t s (i .0)) .departure) (last (h .first) (h .rest)) .0 (record { rest = h .rest; itinerary = subst (λ (r : Ride). Itinerary t (r ∷ h .rest)) opens (h .is-itinerary); ends = ap (λ (r : Ride). last r (h .rest)) (sym opens) })
 
         n : ℕ
         n = w .0 + at t (last (h .first) (h .rest) .connection) .ride

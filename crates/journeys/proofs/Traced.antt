@@ -65,10 +65,10 @@ module _ (t : Table) (l : Lawful t) (s : ℕ) where
       first = h .first;
       rest = h .rest ++ (x ∷ []);
       are = rides-connection e es c p ∙ ap (λ (y : List Ride). y ++ (x ∷ [])) (sym q ∙ h .are);
-      is-itinerary = (h .is-itinerary .0, snoc t l 0 (h .first) (h .rest) x (h .is-itinerary .1) d f);
+      is-itinerary = (h .is-itinerary .0, snoc t l 0 0 (h .first) (h .rest) x (h .is-itinerary .1) d f);
       begins = rw r at (h .begins);
       in-period = rw r at (h .in-period);
-      comes = inr (rw (snoc-last t l 0 (h .first) (h .rest) x) p, rw (snoc-last t l 0 (h .first) (h .rest) x) refl);
+      comes = inr (rw (snoc-last t l 0 0 (h .first) (h .rest) x) p, rw (snoc-last t l 0 0 (h .first) (h .rest) x) refl);
     }
       where
         x : Ride

@@ -1,4 +1,4 @@
--- Itineraries that begin in the present period are the paths of `Reach`.
+-- Itineraries that depart at 0 or later are the paths of `Reach`.
 use mathlib.Core.Path.{_≡_, refl, sym, ap, _∙_, subst}
 use mathlib.Core.List.{List, [], _∷_, _++_}
 use mathlib.Core.Logic.{_⊎_, inl, inr, _↔_}
@@ -25,20 +25,20 @@ module _ (t : Table) (l : Lawful t) where
       ∙ ap (λ y. y % t .period) (omega arith)
       ∙ after-departs (at t e .departure) (t .period) (low e k) (at t c .departure + at t c .ride)
 
-  module _ (f : ℕ) where
-    pub reach-runs : {c n : ℕ} → Reach t f c n → Runs t c
-    reach-runs (first r) = r
+  module _ (f b : ℕ) where
+    pub reach-runs : {c n : ℕ} → Reach t f b c n → Runs t c
+    reach-runs (first r e) = r
     reach-runs (stay h r _) = r
     reach-runs (change h r _ _ _) = r
 
-    pub reach-departs : {c n : ℕ} → Reach t f c n → n % t .period ≡ at t c .departure
-    reach-departs (first r) = mod-eq-of-lt (low f (runs-known t f r))
+    pub reach-departs : {c n : ℕ} → Reach t f b c n → n % t .period ≡ at t c .departure
+    reach-departs (first r e) = e
     reach-departs (stay {c} {e} {n} h r a) = stood c e n (runs-known t e r) (reach-departs h)
     reach-departs (change h r _ e _) = e
 
     -- from the itinerary
     abbrev Reached : Ride → Type 0
-    Reached z = (n : ℕ) × (z .moment ≡ pos n) × Reach t f (z .connection) n
+    Reached z = (n : ℕ) × (z .moment ≡ pos n) × Reach t f b (z .connection) n
 
     later : (r s : Ride) (n : ℕ) → r .moment ≡ pos n → (z : ℤ) → s .moment ≡ z → (arrival t r +ℤ pos (transfer t (at t (r .connection) .end .0))) ≤ℤ s .moment → (m : ℕ) × (s .moment ≡ pos m) × (n + at t (r .connection) .ride + transfer t (at t (r .connection) .end .0) ≤ m)
     later r s n e (pos m) q h = (m, q, omega (arith, ints))
@@ -70,23 +70,23 @@ module _ (t : Table) (l : Lawful t) where
     abbrev pub ride : ℕ → ℕ → Ride
     ride c n = record { connection = c; moment = pos n }
 
-    extend : (z s : Ride) → Journey t f z → Departs t s → Stays t z s ⊎ Changes t z s → Journey t f s
+    extend : (z s : Ride) → Journey t f b z → Departs t s → Stays t z s ⊎ Changes t z s → Journey t f b s
     extend z s j d h = record {
       rest = j .rest ++ (s ∷ []);
-      itinerary = (j .itinerary .0, snoc (opening-ride t f) (j .rest) s (j .itinerary .1) d (rw (j .ends) h));
-      ends = snoc-last (opening-ride t f) (j .rest) s;
+      itinerary = (j .itinerary .0, snoc (ride f b) (j .rest) s (j .itinerary .1) d (rw (j .ends) h));
+      ends = snoc-last (ride f b) (j .rest) s;
     }
 
-    travel : {c n : ℕ} → Reach t f c n → Journey t f (ride c n)
-    travel (first r) = record { rest = []; itinerary = (pos-departs t f (at t f .departure) r (mod-eq-of-lt (low f (runs-known t f r))), tt); ends = refl }
+    travel : {c n : ℕ} → Reach t f b c n → Journey t f b (ride c n)
+    travel (first r e) = record { rest = []; itinerary = (pos-departs t f b r e, tt); ends = refl }
     travel (stay {c} {e} {n} h r a) = extend (ride c n) (ride e (n + at t c .ride + stand t c e)) (travel h) (pos-departs t e _ r (stood c e n (runs-known t e r) (reach-departs h))) (inl (record { aboard = a; stands = refl }))
     travel (change {c} {d} {n} {m} h r k e a) = extend (ride c n) (ride d m) (travel h) (pos-departs t d m r e) (inr (record { meets = k; in-time = omega (arith, ints) }))
 
-    there : (z : Ride) → Journey t f z → Reached z
-    there z j = rw (j .ends) at (walk (opening-ride t f) (j .rest) (at t f .departure, refl, first (j .itinerary .0 .runs)) (j .itinerary .1))
+    there : (z : Ride) → Journey t f b z → Reached z
+    there z j = rw (j .ends) at (walk (ride f b) (j .rest) (b, refl, first (j .itinerary .0 .runs) (departs-pos t l (ride f b) b (j .itinerary .0) refl)) (j .itinerary .1))
 
-    back : (z : Ride) → Reached z → Journey t f z
-    back z (n, e, h) = subst (Journey t f) (λ i. record { connection = z .connection; moment = sym e i }) (travel h)
+    back : (z : Ride) → Reached z → Journey t f b z
+    back z (n, e, h) = subst (Journey t f b) (λ i. record { connection = z .connection; moment = sym e i }) (travel h)
 
 pub bridge : Bridge
-bridge t l f z = (there t l f z, back t l f z)
+bridge t l f b z = (there t l f b z, back t l f b z)

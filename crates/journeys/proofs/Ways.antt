@@ -4,6 +4,7 @@ use mathlib.Core.List.{List, [], _∷_, _++_}
 use mathlib.Core.Logic.{_⊎_, inl, inr, _↔_}
 use Prim.Native.Nat.{ℕ, _+_, _%_, _≤_, _<_}
 use native.Mathlib.Omega.{arith}
+use native.Mathlib.Nat.{mod-eq-of-lt}
 use lib.IntN.{ℤ, pos, _+ℤ_}
 use borrow.Author.Differences.{ints}
 use Rattle.timetable.specs.Table.{Table, at, stations, connections, transfer, stand, next-departure, Follows, Lawful, LawfulConnection}
@@ -14,7 +15,7 @@ use Rattle.journeys.specs.Paths.{Runs, opening-ride, Journey, Reach, first, st
 use Rattle.journeys.specs.Theorems.{ways, Next-first, Gives-monotone}
 use Rattle.journeys.proofs.Clock.{after-departs, after-least, runs-known}
 use Rattle.journeys.proofs.Walk.{bridge, low, reach-runs}
-use Rattle.journeys.proofs.Firsts.{departing}
+use Rattle.journeys.proofs.Firsts.{ordered, departing}
 
 pub next-first : Next-first
 next-first t l c k x = (after-departs (at t c .departure) (t .period) (low t l c k) x, omega arith, after-least (at t c .departure) (t .period) (low t l c k) x)
@@ -47,14 +48,14 @@ module _ (t : Table) (l : Lawful t) where
     -- what a path of ways is: a path to a ride of the connection, or to one that arrives at the station
     abbrev Walked : ℕ → ℕ → ℕ → Type 0
     Walked i p n =
-        ((c : ℕ) × (p ≡ stations t + c) × Reach t (rank-connection t s i) c n)
-        ⊎ ((c : ℕ) × (m : ℕ) × (p ≡ at t c .end .0) × (n ≡ m + at t c .ride) × Reach t (rank-connection t s i) c m)
+        ((c : ℕ) × (p ≡ stations t + c) × Reach t (rank-connection t s i) (at t (rank-connection t s i) .departure) c n)
+        ⊎ ((c : ℕ) × (m : ℕ) × (p ≡ at t c .end .0) × (n ≡ m + at t c .ride) × Reach t (rank-connection t s i) (at t (rank-connection t s i) .departure) c m)
 
-    same : {f m : ℕ} (q c c′ : ℕ) → q ≡ stations t + c → q ≡ stations t + c′ → Reach t f c′ m → Reach t f c m
-    same {f} {m} q c c′ a e h = let z : c′ ≡ c = omega arith in rw z at h
+    same : {f b m : ℕ} (q c c′ : ℕ) → q ≡ stations t + c → q ≡ stations t + c′ → Reach t f b c′ m → Reach t f b c m
+    same {f} {b} {m} q c c′ a e h = let z : c′ ≡ c = omega arith in rw z at h
 
-    known : (i c : ℕ) {m : ℕ} → Reach t (rank-connection t s i) c m → LawfulConnection t (at t c)
-    known i c h = l .each c (runs-known t c (reach-runs t l (rank-connection t s i) h))
+    known : (i c : ℕ) {m : ℕ} → Reach t (rank-connection t s i) (at t (rank-connection t s i) .departure) c m → LawfulConnection t (at t c)
+    known i c h = l .each c (runs-known t c (reach-runs t l (rank-connection t s i) (at t (rank-connection t s i) .departure) h))
 
     late : (q m c c′ k : ℕ) → c < connections t → q ≡ at t c′ .end .0 → m ≡ k + at t c′ .ride → k + at t c′ .ride + transfer t (at t c′ .end .0) ≤ next-departure t c (m + transfer t q)
     late q m c c′ k r e f = rw (← e, ← f) (next-first t l c r (m + transfer t q) .1)
@@ -68,7 +69,7 @@ module _ (t : Table) (l : Lawful t) where
     walked-on i q m p n (inr (c′, k, e, f, h)) (by-change c y r a b d) = inl (c, b, rw d (change h r (sym a ∙ e) (next-first t l c y (m + transfer t q) .0) (late q m c c′ k y e f)))
 
     walked : (i p n : ℕ) → Path (ways t s) i p n → Walked i p n
-    walked i p n (begin f) = inl (rank-connection t s i, f .place, rw (f .departure) (first (departing t s i (f .ranked) .0)))
+    walked i p n (begin f) = inl (rank-connection t s i, f .place, rw (f .departure) (first (departing t s i (f .ranked) .0) (mod-eq-of-lt (low t l (rank-connection t s i) (ordered t s .sound i (f .ranked) .0)))))
     walked i p n (go {q} {m} h g) = walked-on i q m p n (walked i q m h) g
 
     ranked : (i : ℕ) {p n : ℕ} → Path (ways t s) i p n → i < ranks t s
@@ -81,7 +82,7 @@ module _ (t : Table) (l : Lawful t) where
     pub reached : (i p n : ℕ) → Path (ways t s) i p n → Reaches t s i p n
     reached i p n h = by-case (walked i p n h)
       where
-        so : (z : Ride) → Journey t (rank-connection t s i) z → Comes p n z → Reaches t s i p n
+        so : (z : Ride) → Journey t (rank-connection t s i) (at t (rank-connection t s i) .departure) z → Comes p n z → Reaches t s i p n
         so z j c = record {
           first = opening-ride t (rank-connection t s i);
           rest = j .rest;
@@ -93,8 +94,8 @@ module _ (t : Table) (l : Lawful t) where
         }
 
         by-case : Walked i p n → Reaches t s i p n
-        by-case (inl (c, e, r)) = so (record { connection = c; moment = pos n }) (bridge t l (rank-connection t s i) (record { connection = c; moment = pos n }) .1 (n, refl, r)) (inr (e, refl))
-        by-case (inr (c, m, e, f, r)) = so (record { connection = c; moment = pos m }) (bridge t l (rank-connection t s i) (record { connection = c; moment = pos m }) .1 (m, refl, r)) (inl (e, ap pos (sym f)))
+        by-case (inl (c, e, r)) = so (record { connection = c; moment = pos n }) (bridge t l (rank-connection t s i) (at t (rank-connection t s i) .departure) (record { connection = c; moment = pos n }) .1 (n, refl, r)) (inr (e, refl))
+        by-case (inr (c, m, e, f, r)) = so (record { connection = c; moment = pos m }) (bridge t l (rank-connection t s i) (at t (rank-connection t s i) .departure) (record { connection = c; moment = pos m }) .1 (m, refl, r)) (inl (e, ap pos (sym f)))
 
     -- a path of ways as early as a path of rides
     Early : ℕ → ℕ → ℕ → Type 0
@@ -111,15 +112,15 @@ module _ (t : Table) (l : Lawful t) where
     arrived : (i c n : ℕ) → Early i (stations t + c) n → c < connections t → Early i (at t c .end .0) (n + at t c .ride)
     arrived i c n h k = on i (stations t + c) n (at t c .end .0) (n + at t c .ride) h (by-ride c k refl refl refl)
 
-    early : (i : ℕ) → i < ranks t s → {c m : ℕ} → Reach t (rank-connection t s i) c m → Early i (stations t + c) m
+    early : (i : ℕ) → i < ranks t s → {c m : ℕ} → Reach t (rank-connection t s i) (at t (rank-connection t s i) .departure) c m → Early i (stations t + c) m
     unfolding Early
-    early i k (first r) = (_, begin (record { ranked = k; place = refl; departure = refl }), omega arith)
+    early i k (first r e) = (_, begin (record { ranked = k; place = refl; departure = refl }), omega arith)
     early i k (stay {c} {e} {n} h r f) = on i (stations t + c) n (stations t + e) (n + at t c .ride + stand t c e) (early i k h) (by-stay c e f r refl refl refl)
     early i k (change {c} {d} {n} {m} h r e f a) =
         let v = at t c .end .0 in
         let y = runs-known t d r in
         weaker i (stations t + d) (next-departure t d (n + at t c .ride + transfer t v)) m (next-first t l d y (n + at t c .ride + transfer t v) .2 m f a)
-        (on i v (n + at t c .ride) (stations t + d) (next-departure t d (n + at t c .ride + transfer t v)) (arrived i c n (early i k h) (runs-known t c (reach-runs t l (rank-connection t s i) h))) (by-change d y r (sym e) refl refl))
+        (on i v (n + at t c .ride) (stations t + d) (next-departure t d (n + at t c .ride + transfer t v)) (arrived i c n (early i k h) (runs-known t c (reach-runs t l (rank-connection t s i) (at t (rank-connection t s i) .departure) h))) (by-change d y r (sym e) refl refl))
 
     pub early-at : (i p n : ℕ) → Reaches t s i p n → (m : ℕ) × Path (ways t s) i p m × (m ≤ n)
     unfolding Early
@@ -134,8 +135,8 @@ module _ (t : Table) (l : Lawful t) where
         z : Ride
         z = last (opening-ride t (rank-connection t s i)) (a .rest)
 
-        w : (m : ℕ) × (last (opening-ride t (rank-connection t s i)) (a .rest) .moment ≡ pos m) × Reach t (rank-connection t s i) (last (opening-ride t (rank-connection t s i)) (a .rest) .connection) m
-        w = bridge t l (rank-connection t s i) (last (opening-ride t (rank-connection t s i)) (a .rest)) .0 (record { rest = a .rest; itinerary = subst (λ r. Itinerary t (r ∷ a .rest)) opens (a .is-itinerary); ends = refl })
+        w : (m : ℕ) × (last (opening-ride t (rank-connection t s i)) (a .rest) .moment ≡ pos m) × Reach t (rank-connection t s i) (at t (rank-connection t s i) .departure) (last (opening-ride t (rank-connection t s i)) (a .rest) .connection) m
+        w = bridge t l (rank-connection t s i) (at t (rank-connection t s i) .departure) (last (opening-ride t (rank-connection t s i)) (a .rest)) .0 (record { rest = a .rest; itinerary = subst (λ r. Itinerary t (r ∷ a .rest)) opens (a .is-itinerary); ends = refl })
 
         c : ℕ
         c = last (opening-ride t (rank-connection t s i)) (a .rest) .connection
@@ -145,7 +146,7 @@ module _ (t : Table) (l : Lawful t) where
 
         by-case : Comes p n (last (opening-ride t (rank-connection t s i)) (a .rest)) → (m : ℕ) × Path (ways t s) i p m × (m ≤ n)
         by-case (inl (g, h)) =
-            let y = arrived i c (w .0) e (runs-known t c (reach-runs t l (rank-connection t s i) (w .2))) in
+            let y = arrived i c (w .0) e (runs-known t c (reach-runs t l (rank-connection t s i) (at t (rank-connection t s i) .departure) (w .2))) in
             (y .0, subst (λ (v : ℕ). Path (ways t s) i v (y .0)) (sym g) (y .1), omega (arith, ints, y .2, w .1, h))
         by-case (inr (g, h)) = (e .0, subst (λ (v : ℕ). Path (ways t s) i v (e .0)) (sym g) (e .1), omega (arith, ints, e .2, w .1, h))
 

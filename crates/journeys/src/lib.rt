@@ -16,7 +16,7 @@ pub fn first_departures()
     ensures { λ _. ⌜ First-departures ⌝ }
 {}
 
-/// An itinerary that begins in the present period is a path over natural minutes, and each path is one.
+/// An itinerary that departs at 0 or later is a path over natural minutes, and each path is one.
 pub fn itineraries_are_paths()
     ensures { λ _. ⌜ Bridge ⌝ }
 {}

@@ -262,7 +262,10 @@ worked = record {
   a-arrive-491 = arrival-checked timetable-a lawful-a 0 2 (omega arith) ((490, 535) ∷ (1430, 1470) ∷ []) profile-a-2 491 1430 1470 refl;
   a-arrive-1431 = arrival-checked timetable-a lawful-a 0 2 (omega arith) ((490, 535) ∷ (1430, 1470) ∷ []) profile-a-2 1431 1930 1975 refl;
   a-journey-490 = journey-490;
+  late = record { lawful = lawful-late; departures-are = ranks-late; labels-are = check-sound a-late lawful-late 0 labels-late complete-late; count = refl };
   late-profile-2 = profile-late-2;
+  cancelled = record { lawful = lawful-cancelled; departures-are = ranks-cancelled; labels-are = check-sound a-cancelled lawful-cancelled 0 labels-cancelled complete-cancelled; count = refl };
+  cancelled-profile-2 = profile-cancelled-2;
   cancelled-journey-480 = journey-480;
   b = record { lawful = lawful-b; departures-are = ranks-b; labels-are = check-sound timetable-b lawful-b 0 labels-b complete-b; count = refl };
   b-profile-1 = profile-b-1;

@@ -57,8 +57,11 @@ pub record Worked : Type 0 where
   pub a-arrive-1431 : First-at timetable-a 0 2 (pos 1431) (pos 1930) (pos 1975)
   pub a-journey-490 : Journey-is timetable-a 0 2 (pos 490) (leg 1 2 2 490 500 ∷ leg 0 1 1 505 535 ∷ [])
   -- A with train 2 late by 1
+  pub late : Searched a-late 3 9 labels-late
   pub late-profile-2 : Profile-is a-late 0 2 ((490, 530) ∷ (1430, 1470) ∷ [])
   -- A with train 1 cancelled
+  pub cancelled : Searched a-cancelled 2 8 labels-cancelled
+  pub cancelled-profile-2 : Profile-is a-cancelled 0 2 ((480, 535) ∷ (1430, 1470) ∷ [])
   pub cancelled-journey-480 : Journey-is a-cancelled 0 2 (pos 480) (leg 0 0 1 480 535 ∷ [])
   -- B
   pub b : Searched timetable-b 2 4 labels-b

@@ -93,7 +93,8 @@ pub fn pairs_are_covered()
     ensures { λ _. ⌜ Pairs-cover ⌝ }
 {}
 
-/// Following origins from a settled label, each step falls, and the rides met are an itinerary that reaches the label.
+/// Following origins from a settled label, each step falls, the rides met are an itinerary that reaches the label, and the
+/// legs told on the way are that itinerary's.
 pub fn origins_tell_itineraries()
     ensures { λ _. ⌜ Origins-tell ⌝ }
 {}

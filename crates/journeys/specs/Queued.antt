@@ -44,7 +44,7 @@ Opening-begins = (t : Table) → Lawful t → (s : ℕ) → Begins (ways t s) (o
 abbrev pub Leads-put : Type 0
 Leads-put = (t : Table) → Lawful t → (s : ℕ) (x : Entry) (rest : List Entry) → Puts (ways t s) x rest (leads t x ++ rest)
 
--- every search can be brought to its end
+-- from every source some search comes to an empty queue
 abbrev pub Search-finishes : Type 0
 Search-finishes = (t : Table) → Lawful t → (s : ℕ) → (l : List Entry) × State (ways t s) l []
 

@@ -72,7 +72,7 @@ pub fn leads_are_put()
     ensures { λ _. ⌜ Leads-put ⌝ }
 {}
 
-/// Every search can be brought to its end.
+/// From every source some search comes to an empty queue.
 pub fn searches_finish()
     ensures { λ _. ⌜ Search-finishes ⌝ }
 {}

@@ -1,10 +1,11 @@
 -- The worked examples, by the checks.
 use mathlib.Core.Path.{_≡_, refl, ap}
-use mathlib.Core.Bool.{true}
+use mathlib.Core.Bool.{true, cond}
 use mathlib.Core.List.{[], _∷_}
 use Prim.Native.Nat.{ℕ, zero, suc, _+_, _≤_, _<_}
 use mathlib.Core.Logic.{inl, inr}
 use native.Mathlib.Omega.{arith}
+use lib.Dec.{eqb}
 use lib.IntN.{pos}
 use borrow.Author.Differences.{ints}
 use Rattle.timetable.specs.Table.{Lawful, LawfulConnection, at, connections, stations, transfer}
@@ -12,6 +13,8 @@ use Rattle.timetable.specs.Itinerary.{Departs, Stays}
 use Rattle.timetable.specs.Legs.{ride-at, ends, stays, changes}
 use Rattle.timetable.specs.Labels.{inserted, firsts-below, ranks}
 use Rattle.timetable.specs.Examples.{timetable-a, timetable-b}
+use Rattle.timetable.specs.declared.report.Report.the-variants.{Nothing, Cancelled, Late}
+use Rattle.timetable.proofs.Lawfulness.{noticed-lawful}
 use Rattle.journeys.specs.Checked.{complete}
 use Rattle.journeys.specs.Profiles.{profile-check, Profile-is, Journey-is}
 use Rattle.journeys.specs.Worked.{leg, a-late, a-cancelled, labels-a, labels-b, labels-late, labels-cancelled, Worked}
@@ -89,39 +92,8 @@ ranks-b : ranks timetable-b 0 ≡ 2
 unfolding inserted firsts-below
 ranks-b = refl
 
-each-late : (c : ℕ) → c < connections a-late → LawfulConnection a-late (at a-late c)
-each-late zero h = record { train-known = omega arith; start-known = omega arith; end-known = omega arith; moves = λ e. omega arith; in-period = omega arith; ride-low = omega arith; ride-high = omega arith }
-each-late (suc zero) h = record { train-known = omega arith; start-known = omega arith; end-known = omega arith; moves = λ e. omega arith; in-period = omega arith; ride-low = omega arith; ride-high = omega arith }
-each-late (suc (suc zero)) h = record { train-known = omega arith; start-known = omega arith; end-known = omega arith; moves = λ e. omega arith; in-period = omega arith; ride-low = omega arith; ride-high = omega arith }
-each-late (suc (suc (suc zero))) h = record { train-known = omega arith; start-known = omega arith; end-known = omega arith; moves = λ e. omega arith; in-period = omega arith; ride-low = omega arith; ride-high = omega arith }
-each-late (suc (suc (suc (suc zero)))) h = record { train-known = omega arith; start-known = omega arith; end-known = omega arith; moves = λ e. omega arith; in-period = omega arith; ride-low = omega arith; ride-high = omega arith }
-each-late (suc (suc (suc (suc (suc zero))))) h = record { train-known = omega arith; start-known = omega arith; end-known = omega arith; moves = λ e. omega arith; in-period = omega arith; ride-low = omega arith; ride-high = omega arith }
-each-late (suc (suc (suc (suc (suc (suc c)))))) h = absurd (omega arith)
-
-transfers-late : (v : ℕ) → v < stations a-late → transfer a-late v ≤ 1440
-transfers-late zero h = omega arith
-transfers-late (suc zero) h = omega arith
-transfers-late (suc (suc zero)) h = omega arith
-transfers-late (suc (suc (suc v))) h = absurd (omega arith)
-
-rise-late : (c : ℕ) → c + 1 < connections a-late → at a-late c .train .0 ≤ at a-late (c + 1) .train .0
-rise-late zero h = omega arith
-rise-late (suc zero) h = omega arith
-rise-late (suc (suc zero)) h = omega arith
-rise-late (suc (suc (suc zero))) h = omega arith
-rise-late (suc (suc (suc (suc zero)))) h = omega arith
-rise-late (suc (suc (suc (suc (suc c))))) h = absurd (omega arith)
-
-on-late : (c : ℕ) → c + 1 < connections a-late → at a-late c .train .0 ≡ at a-late (c + 1) .train .0 → at a-late c .end .0 ≡ at a-late (c + 1) .start .0
-on-late zero h e = refl
-on-late (suc zero) h e = absurd (omega arith)
-on-late (suc (suc zero)) h e = absurd (omega arith)
-on-late (suc (suc (suc zero))) h e = absurd (omega arith)
-on-late (suc (suc (suc (suc zero)))) h e = absurd (omega arith)
-on-late (suc (suc (suc (suc (suc c))))) h e = absurd (omega arith)
-
 lawful-late : Lawful a-late
-lawful-late = record { period-low = omega arith; period-high = omega arith; stations-low = omega arith; stations-high = omega arith; trains-high = omega arith; connections-high = omega arith; transfer-high = transfers-late; each = each-late; trains-rise = rise-late; goes-on = on-late }
+lawful-late = noticed-lawful timetable-a (λ z. cond (eqb z 2) (Late 1) Nothing) lawful-a
 
 complete-late : complete a-late 0 labels-late ≡ true
 unfolding inserted firsts-below
@@ -131,39 +103,8 @@ ranks-late : ranks a-late 0 ≡ 3
 unfolding inserted firsts-below
 ranks-late = refl
 
-each-cancelled : (c : ℕ) → c < connections a-cancelled → LawfulConnection a-cancelled (at a-cancelled c)
-each-cancelled zero h = record { train-known = omega arith; start-known = omega arith; end-known = omega arith; moves = λ e. omega arith; in-period = omega arith; ride-low = omega arith; ride-high = omega arith }
-each-cancelled (suc zero) h = record { train-known = omega arith; start-known = omega arith; end-known = omega arith; moves = λ e. omega arith; in-period = omega arith; ride-low = omega arith; ride-high = omega arith }
-each-cancelled (suc (suc zero)) h = record { train-known = omega arith; start-known = omega arith; end-known = omega arith; moves = λ e. omega arith; in-period = omega arith; ride-low = omega arith; ride-high = omega arith }
-each-cancelled (suc (suc (suc zero))) h = record { train-known = omega arith; start-known = omega arith; end-known = omega arith; moves = λ e. omega arith; in-period = omega arith; ride-low = omega arith; ride-high = omega arith }
-each-cancelled (suc (suc (suc (suc zero)))) h = record { train-known = omega arith; start-known = omega arith; end-known = omega arith; moves = λ e. omega arith; in-period = omega arith; ride-low = omega arith; ride-high = omega arith }
-each-cancelled (suc (suc (suc (suc (suc zero))))) h = record { train-known = omega arith; start-known = omega arith; end-known = omega arith; moves = λ e. omega arith; in-period = omega arith; ride-low = omega arith; ride-high = omega arith }
-each-cancelled (suc (suc (suc (suc (suc (suc c)))))) h = absurd (omega arith)
-
-transfers-cancelled : (v : ℕ) → v < stations a-cancelled → transfer a-cancelled v ≤ 1440
-transfers-cancelled zero h = omega arith
-transfers-cancelled (suc zero) h = omega arith
-transfers-cancelled (suc (suc zero)) h = omega arith
-transfers-cancelled (suc (suc (suc v))) h = absurd (omega arith)
-
-rise-cancelled : (c : ℕ) → c + 1 < connections a-cancelled → at a-cancelled c .train .0 ≤ at a-cancelled (c + 1) .train .0
-rise-cancelled zero h = omega arith
-rise-cancelled (suc zero) h = omega arith
-rise-cancelled (suc (suc zero)) h = omega arith
-rise-cancelled (suc (suc (suc zero))) h = omega arith
-rise-cancelled (suc (suc (suc (suc zero)))) h = omega arith
-rise-cancelled (suc (suc (suc (suc (suc c))))) h = absurd (omega arith)
-
-on-cancelled : (c : ℕ) → c + 1 < connections a-cancelled → at a-cancelled c .train .0 ≡ at a-cancelled (c + 1) .train .0 → at a-cancelled c .end .0 ≡ at a-cancelled (c + 1) .start .0
-on-cancelled zero h e = refl
-on-cancelled (suc zero) h e = absurd (omega arith)
-on-cancelled (suc (suc zero)) h e = absurd (omega arith)
-on-cancelled (suc (suc (suc zero))) h e = absurd (omega arith)
-on-cancelled (suc (suc (suc (suc zero)))) h e = absurd (omega arith)
-on-cancelled (suc (suc (suc (suc (suc c))))) h e = absurd (omega arith)
-
 lawful-cancelled : Lawful a-cancelled
-lawful-cancelled = record { period-low = omega arith; period-high = omega arith; stations-low = omega arith; stations-high = omega arith; trains-high = omega arith; connections-high = omega arith; transfer-high = transfers-cancelled; each = each-cancelled; trains-rise = rise-cancelled; goes-on = on-cancelled }
+lawful-cancelled = noticed-lawful timetable-a (λ z. cond (eqb z 1) Cancelled Nothing) lawful-a
 
 complete-cancelled : complete a-cancelled 0 labels-cancelled ≡ true
 unfolding inserted firsts-below

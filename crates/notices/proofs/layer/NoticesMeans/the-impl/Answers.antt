@@ -1,5 +1,5 @@
 use Rattle.notices.specs.Slots.{found}
-use Rattle.notices.proofs.Lawfulness.{noticed-lawful}
+use Rattle.timetable.proofs.Lawfulness.{noticed-lawful}
 use Rattle.notices.proofs.layer.NoticesMeans.the-impl.Needs as need
 
 pub lawful-law : need.lawful-law

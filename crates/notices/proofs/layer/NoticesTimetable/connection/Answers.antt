@@ -3,7 +3,7 @@ use native.Mathlib.Omega.{arith}
 use Rattle.timetable.specs.Table.{at}
 use Rattle.timetable.specs.Noticed.{reported}
 use Rattle.notices.specs.Slots.{found}
-use Rattle.notices.proofs.Lawfulness.{noticed-length, noticed-at}
+use Rattle.timetable.proofs.Lawfulness.{noticed-length, noticed-at}
 use Rattle.notices.proofs.layer.NoticesTimetable.connection.Needs as need
 
 pub returns-in-Ok : need.returns-in-Ok

@@ -1,6 +1,6 @@
 use mathlib.Core.Path.{sym, _∙_}
 use Rattle.notices.specs.Slots.{found}
-use Rattle.notices.proofs.Lawfulness.{noticed-length}
+use Rattle.timetable.proofs.Lawfulness.{noticed-length}
 use Rattle.notices.proofs.layer.NoticesTimetable.connections.Needs as need
 
 pub returns : need.returns

@@ -680,7 +680,7 @@ same-room same-train second-board second-labels start-known stations-high statio
 trains-rise transfer-high written-again
 """
 
-TOKEN = re.compile(r"[^\s(){}.,;\"]+")
+TOKEN = re.compile(r"[^\s(){}.,;:\"]+")
 STRING = re.compile(r'"(?:[^"\\]|\\.)*"')
 
 

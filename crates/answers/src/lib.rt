@@ -1,6 +1,8 @@
 //! What the questions answer: definitions over rows as they stand, and the theorems that tie them to all itineraries
 //! where a search wrote the rows. Each theorem is the contract of a function, so that the crate is not proved without it.
 
+#![tactic(auto)]
+
 ghost use Rattle.answers.specs.Theorems.{ArrivePinned, ProfilePinned, JourneyPinned, ArriveTells, ProfileTells, JourneyTells};
 
 pub mod view;

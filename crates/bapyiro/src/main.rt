@@ -1,5 +1,7 @@
 //! `bapyiro`: reads, checks, lists and writes packed timetables, and shows what the engine does.
 
+#![tactic(auto)]
+
 mod command;
 mod demo;
 mod failure;

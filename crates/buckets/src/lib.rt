@@ -1,5 +1,7 @@
 //! A queue of 256 buckets, chosen by the minute modulo 256 and chained through the caller's cells.
 
+#![tactic(auto)]
+
 pub mod buckets;
 pub mod chain;
 mod front;

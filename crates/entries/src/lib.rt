@@ -1,5 +1,7 @@
 //! The kinds of entry that a search puts into its queues.
 
+#![tactic(auto)]
+
 pub mod board;
 pub mod label;
 pub mod numbers;

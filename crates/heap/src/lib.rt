@@ -1,5 +1,7 @@
 //! A queue as a binary heap in the caller's cells.
 
+#![tactic(auto)]
+
 pub mod heap;
 mod sift;
 

@@ -1,5 +1,7 @@
 //! The packed image of a timetable: a reader over the caller's bytes, and a writer for any timetable.
 
+#![tactic(auto)]
+
 mod header;
 pub mod image;
 mod layout;

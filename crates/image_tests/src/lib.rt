@@ -1,5 +1,7 @@
 //! Tests of the packed image: every refusal at its limit, and round trips.
 
+#![tactic(auto)]
+
 #[cfg(test)]
 mod opening;
 #[cfg(test)]

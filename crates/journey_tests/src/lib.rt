@@ -2,6 +2,8 @@
 //! that no search wrote, and timetables of particular shapes. Expected values come from the definitions, worked out by hand
 //! or by an independent program.
 
+#![tactic(auto)]
+
 #[cfg(test)]
 mod damage;
 #[cfg(test)]

@@ -1,6 +1,8 @@
 //! The mathematics of the search: theorems about labels, first departures and the search as a relation, for any lawful
 //! timetable. Each is the contract of a function, so that the crate is not proved without it.
 
+#![tactic(auto)]
+
 ghost use Rattle.journeys.specs.Checked.{CheckSound};
 ghost use Rattle.journeys.specs.Chosen.{PairsChosen, PairsCover, UnbeatenCover, UnbeatenAlways, FirstUnbeaten};
 ghost use Rattle.journeys.specs.Paths.{Bridge};

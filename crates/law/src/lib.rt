@@ -2,6 +2,8 @@
 //! by it, and when planner and memory agree with it. Each theorem is the contract of a function, so that the crate is not
 //! proved without it.
 
+#![tactic(auto)]
+
 ghost use Rattle.law.specs.Theorems.{FreshAgrees, OneBook, RowsInFront, NeverForeign};
 
 /// A planner with no notice and no standing search agrees with the fresh book, whatever the label memory holds.

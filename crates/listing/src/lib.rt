@@ -1,5 +1,7 @@
 //! A timetable as people read it.
 
+#![tactic(auto)]
+
 pub mod clock;
 pub mod lines;
 

@@ -1,5 +1,7 @@
 //! Notices: a timetable over any timetable, changed by what is reported of its trains.
 
+#![tactic(auto)]
+
 pub mod layer;
 pub mod notice;
 pub mod table;

@@ -8,6 +8,8 @@
 //! Each call has the answer over what the planner holds, and the law's line for it: for every book of the calls so far with
 //! which planner and memory agree, what it answers by the book, and that they agree with the book afterwards.
 
+#![tactic(auto)]
+
 pub mod planner;
 
 pub use planner::Planner;

@@ -1,5 +1,7 @@
 //! Arrive, profile and journey: questions to the rows of a search as they stand in a label memory, over any timetable.
 
+#![tactic(auto)]
+
 mod arrivals;
 mod asking;
 mod chain;

@@ -6,7 +6,7 @@ pub trait Entry: Copy {
     /// x is to be handed out strictly before y
     ghost ahead: { Self → Self → Bool };
 
-    ghost minuteOf: { Self → ℕ };
+    ghost minute_of: { Self → ℕ };
 
     /// The entry's minute.
     fn minute(&self) -> u32

@@ -1,5 +1,7 @@
 //! What a queue is: its kinds of entry and its promises, for any make of queue.
 
+#![tactic(auto)]
+
 pub mod entry;
 pub mod interface;
 pub mod room;

@@ -1,5 +1,7 @@
 //! Tests of the queues: one body for every make.
 
+#![tactic(auto)]
+
 #[cfg(test)]
 mod bodies;
 #[cfg(test)]

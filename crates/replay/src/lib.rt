@@ -4,6 +4,8 @@
 //! part of the outputs. `specs/Runs` says what a run is: for each call a line of the law, at the book
 //! that is kept of the calls before it.
 
+#![tactic(auto)]
+
 mod answer;
 mod call;
 mod carrying;

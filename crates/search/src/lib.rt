@@ -28,6 +28,8 @@
 //! Who takes c0 is at station 1 at 500, and so is who takes c2, which leaves later: row 0 is blank there. From 500 the transfer
 //! time of 5 minutes is over in time for c1 at 505, and too late for c3 at 504, which is reached a day later.
 
+#![tactic(auto)]
+
 ghost use Rattle.std.specs.Prelude.{◌≡◌, min, length, Some, None, MatchResult};
 ghost use Rattle.search.specs.Sizes.{search_refusal};
 ghost use Rattle.search.specs.Answer.{Searched, Emptied};

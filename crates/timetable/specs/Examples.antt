@@ -1,5 +1,5 @@
 -- Two example timetables, for documents, tests and worked examples.
-use Rattle.std.specs.Prelude.{ℕ, true, List, [], ◌∷◌}
+use Rattle.std.specs.Prelude.{ℕ, true, [], ◌∷◌}
 use Rattle.timetable.specs.declared.connection.Connection.{Connection}
 use Rattle.timetable.specs.Table.{Table}
 

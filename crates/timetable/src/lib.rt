@@ -3,6 +3,8 @@
 //! `specs/` defines what a timetable means (`Table`) and, over that meaning, itineraries (`Itinerary`), pairs of
 //! departure and arrival (`Pairs`), labels (`Labels`) and the rows of a search (`Rows`).
 
+#![tactic(auto)]
+
 pub mod asking;
 pub mod connection;
 pub mod interface;

@@ -1,6 +1,8 @@
 //! What holds between the turns of a search over rows in a label memory: mathematics only. Each theorem is the contract of a
 //! function, so that the crate is not proved without it.
 
+#![tactic(auto)]
+
 ghost use Rattle.turns.specs.Theorems.{OpeningIsTurn, DropKeeps, SettleKeeps, EndGivesRows, FewWritten};
 
 /// When every first departure has its row and its ride is in the label queue, a search is between two turns.

@@ -1,5 +1,5 @@
 -- Of rows that a search wrote, journey's legs are those of an itinerary that has the pair that arrive answers.
-use Rattle.std.proofs.Common.{◌≡◌, ℕ, ◌<◌, ◌⊎◌, List, length, pos, Ok, Err, sym, ◌∙◌, inl, inr, arith}
+use Rattle.std.proofs.Common.{◌≡◌, ℕ, ◌<◌, ◌⊎◌, List, length, pos, Ok, Err, inl, inr, arith}
 use Rattle.refusals.specs.declared.refusal.Refusal.{Refusal}
 use Rattle.refusals.specs.declared.refusal.Refusal.TheVariants.{Unreachable, ShortAnswer}
 use Rattle.timetable.specs.declared.label.Label.{Label}

@@ -1,17 +1,17 @@
 -- The chosen rows have exactly the unbeaten pairs.
-use Rattle.std.proofs.Common.{◌≡◌, ℕ, zero, suc, ◌+◌, ◌*◌, ◌<◌, ◌≤◌, ◌⊎◌, List, [], ◌∷◌, ◌++◌, length, get_or, sym, refl, ap, ◌∙◌, subst, inl, inr, ⊎_elim, arith}
+use Rattle.std.proofs.Common.{◌≡◌, ℕ, zero, suc, ◌+◌, ◌*◌, ◌<◌, ◌≤◌, ◌⊎◌, List, [], ◌∷◌, ◌++◌, length, sym, refl, ap, ◌∙◌, subst, inl, inr, ⊎_elim, arith}
 use Rattle.std.proofs.lemmas.Bool.{cases_eq, cases_lt, cases_order}
 use Rattle.std.proofs.lemmas.Nat.{mul-le}
 use Rattle.std.proofs.lemmas.List.{get_or_append_left, get_or_push, length_push}
 use Rattle.timetable.specs.declared.label.Label.{Label}
 use Rattle.timetable.specs.declared.pair.Pair.{Pair}
 use Rattle.timetable.specs.Table.{Table, Lawful}
-use Rattle.timetable.specs.Rows.{head, entry, blank}
+use Rattle.timetable.specs.Rows.{head, entry}
 use Rattle.answers.specs.declared.view.View.{View}
-use Rattle.answers.specs.RowPairs.{RowHas, RowPair, RowUnbeaten, IsArrive, IsProfile, pair, pair_at}
-use Rattle.answers.specs.Foreign.{Reached, Foreign, late, falls, early, far, AllOwn, NoRow}
+use Rattle.answers.specs.RowPairs.{RowHas, RowPair, RowUnbeaten, IsProfile, pair, pair_at}
+use Rattle.answers.specs.Foreign.{Reached, late, falls, AllOwn, NoRow}
 use Rattle.answers.specs.Chains.{HighestRow, JourneyRow}
-use Rattle.answers.specs.Rowwise.{view_of, leaving, coming, Comes, Yields, ChosenRow, row_pair, Listed, none, take, pass}
+use Rattle.answers.specs.Rowwise.{view_of, Comes, Yields, ChosenRow, row_pair, Listed, none, take, pass}
 
 -- more periods, more minutes
 more : (period k l : ℕ) → k < l → k * period + period ≤ l * period

@@ -1,5 +1,5 @@
 -- What code that looks at rows may rest on, and what it has found.
-use Rattle.std.proofs.Common.{◌≡◌, ℕ, ◌+◌, ◌*◌, ◌<◌, ◌≤◌, Bool, true, false, cond, eqb, ltb, leb, List, length, Some, None, Option, Result, sym, refl, ap, ◌∙◌, subst, ⊎_elim, arith}
+use Rattle.std.proofs.Common.{◌≡◌, ℕ, ◌+◌, ◌*◌, ◌<◌, ◌≤◌, Bool, true, false, cond, eqb, ltb, leb, List, Some, None, Option, Result, sym, refl, subst, ⊎_elim, arith}
 use lib.Arith.{digits_lt}
 use Rattle.std.proofs.lemmas.Bool.{cases_lt, ltb-false, leb-false}
 use Rattle.std.proofs.lemmas.Nat.{mul-le}
@@ -15,7 +15,7 @@ use Rattle.answers.specs.Foreign.{Reached, late, far, AllOwn}
 use Rattle.answers.specs.Chains.{JourneyRow}
 use Rattle.answers.specs.Promises.{rows_refusal, minute_refusal, target_refusal, asked, asked_profile, Arrived, Profiled, Journeyed}
 use Rattle.answers.specs.Subject.{ArriveTold, ProfileTold, JourneyTold}
-use Rattle.answers.specs.Rowwise.{view_of, Within, ChosenRow, FirstFrom, FirstPair, now, next}
+use Rattle.answers.specs.Rowwise.{view_of, Within, FirstPair, now, next}
 use Rattle.answers.proofs.Outdone.{found-now, found-next}
 use Rattle.answers.proofs.Telling.{arrive_told, profile_told}
 use Rattle.answers.proofs.ChainTold.{journey_told}

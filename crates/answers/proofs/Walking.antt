@@ -1,5 +1,5 @@
 -- Walks along the origins of one row: each step keeps what was counted and written so far true.
-use Rattle.std.proofs.Common.{◌≡◌, ℕ, ◌+◌, ◌-◌, ◌*◌, ◌<◌, ◌≤◌, Bool, true, false, cond, ltb, leb, ◌⊎◌, List, [], ◌∷◌, ◌++◌, map, length, get_or, drop, set, sym, refl, ap, ◌∙◌, subst, inl, inr, arith}
+use Rattle.std.proofs.Common.{◌≡◌, ℕ, ◌+◌, ◌-◌, ◌*◌, ◌<◌, ◌≤◌, Bool, true, false, cond, leb, ◌⊎◌, List, [], ◌∷◌, ◌++◌, map, length, get_or, drop, set, sym, refl, ap, ◌∙◌, subst, inl, inr, arith}
 use Rattle.std.proofs.lemmas.List.{length-map, drop-set, drop_more}
 use Rattle.std.proofs.lemmas.Bool.{cases_lt, lt-ltb, le-ltb, le-leb, lt-leb, both_ways}
 use Rattle.std.proofs.lemmas.Nat.{mul-le}
@@ -8,7 +8,7 @@ use Rattle.timetable.specs.declared.leg.Leg.{Leg}
 use Rattle.timetable.specs.declared.connection.Connection.{Connection}
 use Rattle.timetable.specs.Table.{Table, Lawful, at, stations}
 use Rattle.timetable.specs.Legs.{leg_of, boarded}
-use Rattle.timetable.specs.Labels.{places, connection_place, Gives, no_origin}
+use Rattle.timetable.specs.Labels.{places, Gives, no_origin}
 use Rattle.timetable.specs.Rows.{head, entry, blank}
 use Rattle.journeys.specs.Search.{Entry}
 use Rattle.journeys.specs.Trace.{legs_of}

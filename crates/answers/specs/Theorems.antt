@@ -1,5 +1,5 @@
 -- The theorems about rows as they stand, and about rows that a search wrote.
-use Rattle.std.specs.Prelude.{◌≡◌, ℕ, ◌<◌, List, Result}
+use Rattle.std.specs.Prelude.{◌≡◌, ℕ, List, Result}
 use Rattle.refusals.specs.declared.refusal.Refusal.{Refusal}
 use Rattle.timetable.specs.declared.label.Label.{Label}
 use Rattle.timetable.specs.declared.leg.Leg.{Leg}

@@ -1,10 +1,10 @@
 -- The check of a list of labels is sound.
-use Rattle.std.proofs.Common.{◌≡◌, ℕ, ◌<◌, ◌≤◌, Bool, true, false, not, ◌&&◌, ◌||◌, eqb, ltb, leb, ◌⊎◌, List, [], ◌∷◌, ◌++◌, sym, refl, ap, ◌∙◌, subst, inl, inr, append-nil, arith}
+use Rattle.std.proofs.Common.{◌≡◌, ℕ, ◌<◌, ◌≤◌, Bool, true, false, not, ◌&&◌, ◌||◌, eqb, ltb, leb, ◌⊎◌, List, [], ◌∷◌, ◌++◌, sym, refl, subst, inl, inr, arith}
 use Rattle.std.proofs.lemmas.Bool.{and_parts, or_cases, eqb-true, both_ways}
 use Rattle.std.proofs.lemmas.Bool.Decides.{nat_tests}
 use Rattle.timetable.specs.Table.{Table, Lawful}
-use Rattle.journeys.specs.Search.{Entry, entry, nowhere, Mem, here, there, Path, begin, go, Ground, Sound, Covered, Apart, Done, Next}
-use Rattle.journeys.specs.Theorems.{ways, SettledExactly}
+use Rattle.journeys.specs.Search.{Entry, entry, nowhere, Mem, here, there, Path, begin, go, Sound, Covered, Apart, Done, Next}
+use Rattle.journeys.specs.Theorems.{ways}
 use Rattle.journeys.specs.Queued.{opening, leads}
 use Rattle.journeys.specs.Checked.{all_of, any_of, same_entry, grounded_in, covers, apart_from, complete, CheckSound}
 use Rattle.journeys.proofs.Queued.{join_left, join_parts, opening_begins, leads-put}

@@ -1,8 +1,8 @@
 -- What a finished search has settled, in the words of the definitions.
-use Rattle.std.proofs.Common.{◌≡◌, ℕ, ◌+◌, ◌<◌, ◌≤◌, ◌⊎◌, ◌↔◌, List, [], ◌∷◌, sym, refl, ap, ◌∙◌, subst, inl, inr, arith}
+use Rattle.std.proofs.Common.{ℕ, ◌<◌, ◌≤◌, List, inl, inr, arith}
 use Rattle.timetable.specs.Table.{Table, at, stations, Lawful}
-use Rattle.timetable.specs.Labels.{rank_connection, IsLabel, Leads, Gives, by_ride, by_stay, by_change, IsFirstRide, IsHighestGiver, IsOrigin}
-use Rattle.journeys.specs.Search.{Path, begin, go, Label, Leading, From, Origin, Exact, Entry, Mem, Done, Running, State, start, then}
+use Rattle.timetable.specs.Labels.{rank_connection, Leads, Gives, by_ride, by_stay, by_change, IsFirstRide, IsOrigin}
+use Rattle.journeys.specs.Search.{Path, begin, go, Label, Leading, From, Origin, Entry, Done, Running, State, start, then}
 use Rattle.journeys.specs.Theorems.{ways, SettledExactly, SearchBegins, SearchKeeps, SearchEnds, SearchFound}
 use Rattle.journeys.proofs.Ways.{forward, onward, labels}
 use Rattle.journeys.proofs.Finished.{exact}

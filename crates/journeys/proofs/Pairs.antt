@@ -1,14 +1,14 @@
 -- The unbeaten pairs are the leading pairs that none of them beats.
-use Rattle.std.proofs.Common.{◌≡◌, ℕ, ◌+◌, ◌*◌, ◌<◌, ◌≤◌, true, ◌&&◌, ◌||◌, eqb, ltb, ◌⊎◌, ◌↔◌, List, [], ◌∷◌, map, ℤ, pos, negsuc, ◌+ℤ◌, ◌*ℤ◌, neg_ℤ, ◌≤ℤ◌, ◌<ℤ◌, sym, refl, ap, ◌∙◌, subst, inl, inr, arith}
+use Rattle.std.proofs.Common.{◌≡◌, ℕ, ◌+◌, ◌*◌, ◌<◌, ◌≤◌, true, ◌&&◌, ◌||◌, eqb, ltb, ◌⊎◌, List, [], ◌∷◌, map, ℤ, pos, negsuc, ◌+ℤ◌, ◌*ℤ◌, neg_ℤ, ◌≤ℤ◌, ◌<ℤ◌, sym, refl, ap, ◌∙◌, subst, inl, inr, arith}
 use borrow.Author.Differences.{ints, sum_is_lem, neg_is}
 use Rattle.std.proofs.lemmas.Bool.{cases_eq, and_from, eq-eqb}
 use Rattle.std.proofs.lemmas.Bool.Decides.{nat_tests}
-use Rattle.timetable.specs.Table.{Table, at, stations, connections, transfer, Lawful}
+use Rattle.timetable.specs.Table.{Table, at, stations, Lawful}
 use Rattle.timetable.specs.Itinerary.{Ride, arrival, Departs, Stays, Changes, GoesOn, Itinerary, last}
 use Rattle.timetable.specs.Pairs.{Travels, Beats, Unbeaten}
-use Rattle.timetable.specs.Labels.{leaves, sooner, ranks, rank_connection, connection_place, Reaches, Leads}
+use Rattle.timetable.specs.Labels.{ranks, rank_connection, connection_place, Reaches, Leads}
 use Rattle.journeys.specs.Search.{Entry, Mem, Path, Done}
-use Rattle.journeys.specs.Paths.{Journey, Reach, opening_ride}
+use Rattle.journeys.specs.Paths.{Reach, opening_ride}
 use Rattle.journeys.specs.Theorems.{ways}
 use Rattle.journeys.specs.Chosen.{moved, LeadingPair, Chosen, PairsChosen, PairsCover}
 use Rattle.journeys.proofs.Walk.{bridge}

@@ -1,19 +1,18 @@
 -- The check of the unbeaten pairs is sound.
-use Rattle.std.proofs.Common.{◌≡◌, ℕ, ◌+◌, ◌-◌, ◌*◌, ◌/◌, ◌%◌, ◌<◌, ◌≤◌, Bool, true, false, not, ◌&&◌, ◌||◌, eqb, leb, ◌⊎◌, ◌↔◌, List, [], ◌∷◌, ℤ, pos, negsuc, ◌+ℤ◌, ◌*ℤ◌, neg_ℤ, ◌≤ℤ◌, ◌<ℤ◌, sym, refl, ap, ◌∙◌, subst, inl, inr, mod-lt, mod-eq_of_lt, arith}
+use Rattle.std.proofs.Common.{◌≡◌, ℕ, ◌+◌, ◌*◌, ◌/◌, ◌%◌, ◌<◌, ◌≤◌, Bool, true, false, not, ◌&&◌, ◌||◌, eqb, leb, ◌⊎◌, List, [], ◌∷◌, ℤ, pos, negsuc, ◌+ℤ◌, ◌*ℤ◌, neg_ℤ, ◌≤ℤ◌, ◌<ℤ◌, sym, refl, ap, ◌∙◌, subst, inl, inr, mod-lt, mod-eq_of_lt, arith}
 use native.Mathlib.Nat.{div-add-mod}
 use borrow.Author.Differences.{ints}
-use Rattle.std.proofs.lemmas.Bool.{and_from, and_parts, or_cases, both_ways, not-true, eq-eqb, eqb-true, cases_Bool, leb-true, le-leb}
+use Rattle.std.proofs.lemmas.Bool.{and_from, and_parts, or_cases, both_ways, not-true, eq-eqb, eqb-true, cases_Bool, leb-true}
 use Rattle.std.proofs.lemmas.Bool.Decides.{nat_tests}
-use Rattle.timetable.specs.Table.{Table, at, stations, ahead, Lawful}
+use Rattle.timetable.specs.Table.{Table, stations, ahead, Lawful}
 use Rattle.timetable.specs.Pairs.{Travels, Beats, Unbeaten}
-use Rattle.timetable.specs.Labels.{rank_connection}
 use Rattle.journeys.specs.Search.{Entry, Mem, here, there, Done}
 use Rattle.journeys.specs.Theorems.{ways}
-use Rattle.journeys.specs.Checked.{all_of, any_of, complete}
+use Rattle.journeys.specs.Checked.{all_of, any_of}
 use Rattle.journeys.specs.Chosen.{moved}
-use Rattle.journeys.specs.Profiles.{leaving_of, next_of, next_arrival, unbeaten_in, Listed, ProfileSound, Among, ProfileIs, pair_of, any_pair, all_pairs, profile_check, ProfileChecked, arrival_check, ArrivalChecked, FirstAt}
+use Rattle.journeys.specs.Profiles.{leaving_of, next_of, next_arrival, unbeaten_in, Listed, ProfileSound, Among, pair_of, any_pair, all_pairs, ProfileChecked, ArrivalChecked}
 use Rattle.journeys.proofs.Clock.{after_least, leaves}
-use Rattle.journeys.proofs.Pairs.{distribute, opposite, same_or_less, shift_travels, reached_pair, Found, settled-leads, find, finished}
+use Rattle.journeys.proofs.Pairs.{opposite, same_or_less, shift_travels, reached_pair, Found, settled-leads, find, finished}
 use Rattle.journeys.proofs.Unbeaten.{moved_unbeaten, leaves-first, low-at, at_zero, travels-at}
 use Rattle.journeys.proofs.Checking.{all_at, any_at, done}
 

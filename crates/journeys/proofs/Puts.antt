@@ -1,12 +1,11 @@
 -- How many entries a search puts.
 use Rattle.std.proofs.Common.{◌≡◌, ℕ, zero, suc, ◌+◌, ◌*◌, ◌<◌, ◌≤◌, Bool, true, false, ◌&&◌, eqb, ◌⊎◌, List, [], ◌∷◌, ◌++◌, length, sym, refl, ap, ◌∙◌, inl, inr, arith, length-append}
 use Rattle.std.proofs.lemmas.Bool.{cases_eq, eq-eqb, ne_eqb}
-use Rattle.timetable.specs.Table.{Table, at, stations, connections, Lawful}
+use Rattle.timetable.specs.Table.{Table, at, stations, connections}
 use Rattle.timetable.specs.Labels.{ranks}
 use Rattle.journeys.specs.Search.{Entry, Mem, State, start, then, skip, settle}
 use Rattle.journeys.specs.Theorems.{ways}
-use Rattle.journeys.specs.Queued.{each, only, opening, ride_by, stay_by, change_by, leads_by, leads, led, SearchPutsFew}
-use Rattle.journeys.proofs.Clock.{times}
+use Rattle.journeys.specs.Queued.{each, only, opening, ride_by, stay_by, change_by, leads_by, led, SearchPutsFew}
 use Rattle.journeys.proofs.Steps.{push_old, push_new}
 use Rattle.journeys.proofs.Sizes.{search_small}
 

@@ -1,9 +1,9 @@
 -- The lists of the queue have the entries that they should.
-use Rattle.std.proofs.Common.{◌≡◌, ℕ, zero, suc, ◌+◌, ◌*◌, ◌<◌, ◌≤◌, Bool, true, false, cond, ◌&&◌, eqb, ◌⊎◌, List, [], ◌∷◌, ◌++◌, length, sym, refl, ap, ◌∙◌, subst, inl, inr, arith, length-append}
-use Rattle.std.proofs.lemmas.Bool.{cond_both, cond-true, and_parts, and_from, eqb-true, eq-eqb, cases_eq}
-use Rattle.timetable.specs.Table.{Table, at, stations, connections, transfer, stand, next_departure, Follows, Lawful}
+use Rattle.std.proofs.Common.{◌≡◌, ℕ, zero, suc, ◌+◌, ◌*◌, ◌<◌, ◌≤◌, Bool, true, false, ◌&&◌, eqb, ◌⊎◌, List, [], ◌∷◌, ◌++◌, length, sym, refl, ap, ◌∙◌, subst, inl, inr, arith, length-append}
+use Rattle.std.proofs.lemmas.Bool.{cond-true, and_parts, and_from, eqb-true, eq-eqb, cases_eq}
+use Rattle.timetable.specs.Table.{Table, at, stations, connections, transfer, stand, next_departure, Lawful}
 use Rattle.timetable.specs.Labels.{ranks, rank_connection, Gives, by_ride, by_stay, by_change, IsFirstRide}
-use Rattle.journeys.specs.Search.{Entry, entry, nowhere, Mem, here, there, Begins, Next, Puts}
+use Rattle.journeys.specs.Search.{Entry, entry, nowhere, Mem, here, there, Next}
 use Rattle.journeys.specs.Theorems.{ways}
 use Rattle.journeys.specs.Queued.{each, only, opening, leads_by, leads, OpeningBegins, LeadsPut}
 use Rattle.journeys.proofs.Clock.{runs_known}

@@ -1,10 +1,10 @@
 -- The bounds of a lawful timetable's labels and searches.
-use Rattle.std.proofs.Common.{◌≡◌, ℕ, ◌+◌, ◌-◌, ◌*◌, ◌%◌, ◌<◌, ◌≤◌, List, ap, ◌∙◌, mod-lt, arith}
-use Rattle.timetable.specs.Table.{Table, at, stations, connections, transfer, ahead, stand, next_departure, Lawful, LawfulConnection}
+use Rattle.std.proofs.Common.{ℕ, ◌+◌, ◌-◌, ◌*◌, ◌%◌, ◌<◌, ◌≤◌, mod-lt, arith}
+use Rattle.timetable.specs.Table.{Table, at, transfer, ahead, Lawful}
 use Rattle.timetable.specs.Labels.{ranks, rank_connection, places, Gives, by_ride, by_stay, by_change}
-use Rattle.journeys.specs.Search.{Entry, Mem, Bounded}
+use Rattle.journeys.specs.Search.{Bounded}
 use Rattle.journeys.specs.Theorems.{ways, LabelsSmall, SearchSmall}
-use Rattle.journeys.proofs.Clock.{runs_known, times}
+use Rattle.journeys.proofs.Clock.{times}
 use Rattle.journeys.proofs.Walk.{low}
 use Rattle.journeys.proofs.Firsts.{ordered}
 use Rattle.journeys.proofs.Ways.{forward, labels}

@@ -1,21 +1,21 @@
 -- The origins of a settled label tell an itinerary.
-use Rattle.std.proofs.Common.{◌≡◌, ℕ, zero, suc, ◌+◌, ◌-◌, ◌*◌, ◌%◌, ◌<◌, ◌≤◌, true, false, cond, ltb, leb, ◌⊎◌, List, [], ◌∷◌, ◌++◌, ℤ, pos, ◌+ℤ◌, ◌≤ℤ◌, sym, refl, ap, ◌∙◌, subst, inl, inr, mod-eq_of_lt, arith}
+use Rattle.std.proofs.Common.{◌≡◌, ℕ, zero, suc, ◌+◌, ◌-◌, ◌*◌, ◌%◌, ◌<◌, ◌≤◌, ltb, leb, ◌⊎◌, List, [], ◌∷◌, ◌++◌, pos, ◌+ℤ◌, sym, refl, ap, ◌∙◌, subst, inl, inr, mod-eq_of_lt, arith}
 use native.Mathlib.Decide.{dec_lt}
 use borrow.Author.Differences.{ints}
 use Rattle.std.proofs.lemmas.Bool.{cond-true, cond-false, lt-ltb, le-ltb, le-leb, lt-leb}
-use Rattle.timetable.specs.Table.{Table, at, stations, connections, transfer, stand, Lawful}
-use Rattle.timetable.specs.Itinerary.{Ride, arrival, Departs, Stays, Changes, GoesOn, Itinerary, last}
+use Rattle.timetable.specs.Table.{Table, at, stations, transfer, stand, Lawful}
+use Rattle.timetable.specs.Itinerary.{Ride, arrival, Departs, Stays, Changes, GoesOn, last}
 use Rattle.timetable.specs.Legs.{leg_of, boarded, Legs, ends, stays, changes}
-use Rattle.timetable.specs.Labels.{rank_connection, connection_place, places, Gives, by_ride, by_stay, by_change, IsFirstRide, IsLabel, IsOrigin}
+use Rattle.timetable.specs.Labels.{rank_connection, places, Gives, by_ride, by_stay, by_change, IsFirstRide, IsLabel, IsOrigin}
 use Rattle.timetable.specs.declared.leg.Leg.{Leg}
-use Rattle.journeys.specs.Search.{Entry, Mem, Done, Ground, nowhere}
+use Rattle.journeys.specs.Search.{Entry, Mem, Done, Ground}
 use Rattle.journeys.specs.Paths.{Runs}
 use Rattle.journeys.specs.Theorems.{ways}
 use Rattle.journeys.specs.Theorems.{SettledExactly}
-use Rattle.journeys.specs.Trace.{Chain, from, back, rides_of, Tells, depth, extended, aboard, legs_of, Told, OriginsTell}
+use Rattle.journeys.specs.Trace.{Chain, from, back, rides_of, Tells, depth, extended, legs_of, OriginsTell}
 use Rattle.journeys.proofs.Clock.{times, departs_pos, pos_departs, runs_known}
 use Rattle.journeys.proofs.Walk.{low, snoc, snoc-last, stood}
-use Rattle.journeys.proofs.Firsts.{ordered, departing}
+use Rattle.journeys.proofs.Firsts.{departing}
 use Rattle.journeys.proofs.Ways.{forward, next-first}
 use Rattle.journeys.proofs.Steps.{ends as finished_so}
 use Rattle.journeys.proofs.Exactly.{running, exactly}

@@ -1,5 +1,5 @@
 -- Every itinerary is covered by an unbeaten pair: of the settled labels that cover it, one of the shortest travel time.
-use Rattle.std.proofs.Common.{◌≡◌, ℕ, zero, suc, ◌+◌, ◌-◌, ◌*◌, ◌/◌, ◌%◌, ◌<◌, ◌≤◌, Bool, true, false, ◌&&◌, eqb, leb, ◌⊎◌, List, [], ◌∷◌, ℤ, pos, negsuc, ◌+ℤ◌, ◌*ℤ◌, neg_ℤ, ◌≤ℤ◌, ◌<ℤ◌, sym, refl, ap, ◌∙◌, subst, inl, inr, arith}
+use Rattle.std.proofs.Common.{◌≡◌, ℕ, ◌+◌, ◌-◌, ◌*◌, ◌/◌, ◌%◌, ◌<◌, ◌≤◌, Bool, true, false, ◌&&◌, eqb, leb, ◌⊎◌, List, [], ◌∷◌, ℤ, pos, negsuc, ◌+ℤ◌, ◌*ℤ◌, neg_ℤ, ◌≤ℤ◌, ◌<ℤ◌, sym, refl, ap, subst, inl, inr, arith}
 use borrow.Author.Differences.{ints}
 use Rattle.std.proofs.lemmas.Bool.{and_from, and_parts, eq-eqb, eqb-true, le-leb, leb-true, cases_Bool, cases_lt, both_ways}
 use Rattle.timetable.specs.Table.{Table, at, stations, Lawful}
@@ -13,7 +13,7 @@ use Rattle.journeys.proofs.Walk.{low}
 use Rattle.journeys.proofs.Firsts.{ordered}
 use Rattle.journeys.proofs.Ways.{labels}
 use Rattle.journeys.proofs.Exactly.{not_before}
-use Rattle.journeys.proofs.Pairs.{distribute, opposite, same_or_less, shift_travels, reached_pair, Found, settled-leads, find, finished}
+use Rattle.journeys.proofs.Pairs.{distribute, opposite, shift_travels, reached_pair, Found, settled-leads, find, finished}
 
 -- of the entries of a list that pass a test, one with the least value
 record Least (p : Entry → Bool) (f : Entry → ℕ) (l : List Entry) : Type 0 where

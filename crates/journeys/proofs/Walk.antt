@@ -1,10 +1,10 @@
 -- Itineraries that depart at 0 or later are the paths of `Reach`.
-use Rattle.std.proofs.Common.{◌≡◌, ℕ, ◌+◌, ◌%◌, ◌<◌, ◌≤◌, ◌⊎◌, ◌↔◌, List, [], ◌∷◌, ◌++◌, ℤ, pos, negsuc, ◌+ℤ◌, ◌≤ℤ◌, sym, refl, ap, ◌∙◌, subst, inl, inr, mod-eq_of_lt, arith}
+use Rattle.std.proofs.Common.{◌≡◌, ℕ, ◌+◌, ◌%◌, ◌<◌, ◌≤◌, ◌⊎◌, List, [], ◌∷◌, ◌++◌, ℤ, pos, negsuc, ◌+ℤ◌, ◌≤ℤ◌, sym, refl, ap, ◌∙◌, subst, inl, inr, arith}
 use native.Mathlib.Nat.{mod-add-mod}
 use borrow.Author.Differences.{ints}
-use Rattle.timetable.specs.Table.{Table, at, connections, transfer, stand, Follows, Lawful}
-use Rattle.timetable.specs.Itinerary.{Ride, arrival, Departs, Stays, Changes, GoesOn, Itinerary, last}
-use Rattle.journeys.specs.Paths.{Runs, opening_ride, Journey, Reach, first, stay, change, Bridge}
+use Rattle.timetable.specs.Table.{Table, at, connections, transfer, stand, Lawful}
+use Rattle.timetable.specs.Itinerary.{Ride, arrival, Departs, Stays, Changes, GoesOn, last}
+use Rattle.journeys.specs.Paths.{Runs, Journey, Reach, first, stay, change, Bridge}
 use Rattle.journeys.proofs.Clock.{after-departs, runs_known, departs_pos, pos_departs}
 
 module _ (t : Table) (l : Lawful t) where

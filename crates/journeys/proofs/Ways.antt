@@ -1,11 +1,11 @@
 -- The ways of a timetable lead forward, and their least minutes are the labels.
-use Rattle.std.proofs.Common.{◌≡◌, ℕ, ◌+◌, ◌%◌, ◌<◌, ◌≤◌, ◌⊎◌, ◌↔◌, List, [], ◌∷◌, ◌++◌, ℤ, pos, ◌+ℤ◌, sym, refl, ap, ◌∙◌, subst, inl, inr, mod-eq_of_lt, arith}
+use Rattle.std.proofs.Common.{◌≡◌, ℕ, ◌+◌, ◌<◌, ◌≤◌, ◌⊎◌, ◌↔◌, ◌∷◌, pos, sym, refl, ap, ◌∙◌, subst, inl, inr, mod-eq_of_lt, arith}
 use borrow.Author.Differences.{ints}
-use Rattle.timetable.specs.Table.{Table, at, stations, connections, transfer, stand, next_departure, Follows, Lawful, LawfulConnection}
+use Rattle.timetable.specs.Table.{Table, at, stations, connections, transfer, stand, next_departure, Lawful, LawfulConnection}
 use Rattle.timetable.specs.Itinerary.{Ride, arrival, Itinerary, last}
-use Rattle.timetable.specs.Labels.{ranks, rank_connection, connection_place, Reaches, IsLabel, Gives, by_ride, by_stay, by_change, IsFirstRide}
+use Rattle.timetable.specs.Labels.{ranks, rank_connection, connection_place, Reaches, IsLabel, Gives, by_ride, by_stay, by_change}
 use Rattle.journeys.specs.Search.{Path, begin, go, Label, Forward}
-use Rattle.journeys.specs.Paths.{Runs, opening_ride, Journey, Reach, first, stay, change}
+use Rattle.journeys.specs.Paths.{opening_ride, Journey, Reach, first, stay, change}
 use Rattle.journeys.specs.Theorems.{ways, NextFirst, GivesMonotone}
 use Rattle.journeys.proofs.Clock.{after-departs, after_least, runs_known}
 use Rattle.journeys.proofs.Walk.{bridge, low, reach-runs}

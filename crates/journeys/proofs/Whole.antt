@@ -1,15 +1,14 @@
 -- Every search comes to its end.
-use Rattle.std.proofs.Common.{◌≡◌, ℕ, zero, suc, ◌+◌, ◌-◌, ◌*◌, ◌<◌, ◌≤◌, ◌⊎◌, List, [], ◌∷◌, ◌++◌, length, sym, refl, ap, ◌∙◌, subst, inl, inr, add-one, arith, length-append}
+use Rattle.std.proofs.Common.{◌≡◌, ℕ, zero, suc, ◌+◌, ◌-◌, ◌*◌, ◌<◌, ◌≤◌, ◌⊎◌, List, [], ◌∷◌, ◌++◌, length, refl, ap, inl, inr, add-one, arith, length-append}
 use Rattle.std.proofs.lemmas.Bool.{cases_eq, cases_lt, cases_order}
 use Rattle.timetable.specs.Table.{Table, connections, Lawful}
 use Rattle.timetable.specs.Labels.{ranks, places}
-use Rattle.journeys.specs.Search.{Entry, Mem, here, there, Before, Takes, Step, skip, settle, State, start, then}
-use Rattle.journeys.specs.Theorems.{ways, SearchSmall}
+use Rattle.journeys.specs.Search.{Entry, Mem, here, there, Before, Takes, skip, settle, State, start, then}
+use Rattle.journeys.specs.Theorems.{ways}
 use Rattle.journeys.specs.Queued.{opening, leads, SearchFinishes}
-use Rattle.journeys.proofs.Steps.{before_trans, before_refl, nobody}
+use Rattle.journeys.proofs.Steps.{before_trans, nobody}
 use Rattle.journeys.proofs.Queued.{opening_begins, leads-put, leads-length}
 use Rattle.journeys.proofs.Sizes.{search_small}
-use Rattle.journeys.proofs.Clock.{times}
 
 -- of two entries one comes before the other
 pub either : (a b : Entry) → Before a b ⊎ Before b a

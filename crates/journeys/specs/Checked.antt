@@ -1,5 +1,5 @@
 -- A check that computes: whether a list of labels, each after its origin's, is what a finished search has settled.
-use Rattle.std.specs.Prelude.{◌≡◌, ℕ, ◌<◌, ◌≤◌, Bool, true, false, not, ◌&&◌, ◌||◌, List, [], ◌∷◌, ◌++◌, ◌==◌, nat_le, nat_lt}
+use Rattle.std.specs.Prelude.{◌≡◌, ℕ, Bool, true, false, not, ◌&&◌, ◌||◌, List, [], ◌∷◌, ◌==◌, nat_le, nat_lt}
 use Rattle.timetable.specs.Table.{Table, Lawful}
 use Rattle.journeys.specs.Search.{Entry}
 use Rattle.journeys.specs.Theorems.{SettledExactly}

@@ -1,5 +1,5 @@
 -- The unbeaten pairs, by leading labels.
-use Rattle.std.specs.Prelude.{◌≡◌, ℕ, ◌<◌, ◌≤◌, ◌↔◌, ℤ, pos, ◌+ℤ◌, ◌*ℤ◌, ◌≤ℤ◌, ◌<ℤ◌}
+use Rattle.std.specs.Prelude.{◌≡◌, ℕ, ◌<◌, ◌↔◌, ℤ, pos, ◌+ℤ◌, ◌*ℤ◌, ◌≤ℤ◌}
 use Rattle.timetable.specs.Table.{Table, Lawful, at, stations}
 use Rattle.timetable.specs.Pairs.{Travels, Beats, Unbeaten}
 use Rattle.timetable.specs.Labels.{rank_connection, Leads}

@@ -1,5 +1,5 @@
 -- The unbeaten pairs by a check that computes over the settled labels.
-use Rattle.std.specs.Prelude.{◌≡◌, ℕ, ◌+◌, ◌-◌, ◌%◌, ◌<◌, ◌≤◌, Bool, true, false, not, ◌&&◌, ◌||◌, leb, ◌⊎◌, ◌↔◌, List, [], ◌∷◌, ℤ, pos, ◌≤ℤ◌, ◌==◌, nat_le}
+use Rattle.std.specs.Prelude.{◌≡◌, ℕ, ◌+◌, ◌-◌, ◌%◌, ◌<◌, Bool, true, false, not, ◌&&◌, ◌||◌, leb, ◌⊎◌, ◌↔◌, List, [], ◌∷◌, ℤ, pos, ◌≤ℤ◌, ◌==◌, nat_le}
 use Rattle.timetable.specs.Table.{Table, Lawful, at, stations, ahead, next_departure}
 use Rattle.timetable.specs.Pairs.{Travels, Unbeaten}
 use Rattle.timetable.specs.Legs.{Legs}

@@ -1,5 +1,5 @@
 -- The entries that a search begins with, and those that an entry leads to, as lists.
-use Rattle.std.specs.Prelude.{◌≡◌, ℕ, zero, suc, ◌+◌, ◌*◌, ◌≤◌, Bool, cond, ◌&&◌, List, [], ◌∷◌, ◌++◌, length, ◌==◌}
+use Rattle.std.specs.Prelude.{ℕ, zero, suc, ◌+◌, ◌*◌, ◌≤◌, Bool, cond, ◌&&◌, List, [], ◌∷◌, ◌++◌, length, ◌==◌}
 use Rattle.timetable.specs.Table.{Table, at, stations, connections, transfer, stand, next_departure, Lawful}
 use Rattle.timetable.specs.Labels.{ranks, rank_connection}
 use Rattle.journeys.specs.Search.{Entry, entry, nowhere, Begins, Puts, State}

@@ -1,5 +1,5 @@
 -- A search over places, in minutes and ranks: labels, leading labels, origins, and the facts of a finished search.
-use Rattle.std.specs.Prelude.{◌≡◌, ℕ, ◌+◌, ◌*◌, ◌<◌, ◌≤◌, ◌⊎◌, ◌↔◌, List, [], ◌∷◌, ◌++◌}
+use Rattle.std.specs.Prelude.{◌≡◌, ℕ, ◌+◌, ◌<◌, ◌≤◌, ◌⊎◌, ◌↔◌, List, [], ◌∷◌, ◌++◌}
 
 -- a label, settled or waiting in the queue: rank comes to place at minute, from origin
 pub record Entry : Type 0 where

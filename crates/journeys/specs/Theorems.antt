@@ -1,8 +1,7 @@
 -- The theorems about labels and the search, of any lawful timetable.
 use Rattle.std.specs.Prelude.{◌≡◌, ℕ, ◌*◌, ◌%◌, ◌<◌, ◌≤◌, true, ◌↔◌, List, [], length}
 use Rattle.timetable.specs.Table.{Table, Lawful, at, connections, next_departure}
-use Rattle.timetable.specs.Labels.{sooner, leaves, firsts, ranks, rank_connection, places, IsLabel, Leads, Gives, IsFirstRide, IsOrigin}
-use Rattle.journeys.specs.Paths.{Runs}
+use Rattle.timetable.specs.Labels.{sooner, leaves, ranks, rank_connection, places, IsLabel, Leads, Gives, IsFirstRide, IsOrigin}
 use Rattle.journeys.specs.Search.{Ways, Entry, Mem, Begins, Step, Running, State}
 
 -- what the ways of a timetable are to a search from s

@@ -5,7 +5,7 @@ use Rattle.timetable.specs.Itinerary.{Ride, arrival, Itinerary, last}
 use Rattle.timetable.specs.Legs.{leg_of, Legs}
 use Rattle.timetable.specs.declared.leg.Leg.{Leg}
 use Rattle.timetable.specs.Labels.{rank_connection, connection_place, places}
-use Rattle.journeys.specs.Search.{Entry, Mem, Ways, State, nowhere}
+use Rattle.journeys.specs.Search.{Entry, Mem, State, nowhere}
 use Rattle.journeys.specs.Theorems.{ways}
 
 -- the way back from an entry: this number falls with every step to an origin, so the way ends

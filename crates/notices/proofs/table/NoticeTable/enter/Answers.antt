@@ -16,26 +16,26 @@ returns-in-Some c =
     let P : List Notice → Type 0 = λ w. Entered t.slots w z r in
     (subst P (sym c.replace.ensures) (entered_over z r t.slots c.in-Some.i l o h), λ _. ap stands (found-one t.slots c.in-Some.i z o h) ∙ stands_named (get_or t.slots c.in-Some.i empty) z h)
 
-pub returns-in-default-free-slot : goal.returns-in-default-free-slot
-returns-in-default-free-slot c =
+pub returns-in_default-free_slot : goal.returns-in_default-free_slot
+returns-in_default-free_slot c =
     let t = c.args.self.now in
-    let n : found t.slots c.args.train.0 ≡ Nothing = found_none t.slots c.args.train.0 (none_at_all t.slots c.args.train.0 t.all c.in-default.ensures) in
-    let u = all_used t.slots (λ j l. c.in-default-free-slot.ensures j (omega (arith, t.all, l))) in
+    let n : found t.slots c.args.train.0 ≡ Nothing = found_none t.slots c.args.train.0 (none_at_all t.slots c.args.train.0 t.all c.in_default.ensures) in
+    let u = all_used t.slots (λ j l. c.in_default-free_slot.ensures j (omega (arith, t.all, l))) in
     (refl, omega (arith, u, t.all), ap stands n, refl)
 
 pub replace-requires-2 : goal.replace-requires-2
 replace-requires-2 c =
     let t = c.args.self.now in
-    (c.in-Some-free-slot.ensures.0, λ j _. none_at_all t.slots c.args.train.0 t.all c.in-default.ensures j)
+    (c.in-Some-free_slot.ensures.0, λ j _. none_at_all t.slots c.args.train.0 t.all c.in_default.ensures j)
 
 pub returns : goal.returns
 returns c =
     let t = c.args.self.now in
     let z = c.args.train.0 in
     let r = c.args.report in
-    let i = c.in-Some-free-slot.i in
-    let l : i < length t.slots = omega (arith, t.all, c.in-Some-free-slot.ensures.0) in
-    let none = none_at_all t.slots z t.all c.in-default.ensures in
+    let i = c.in-Some-free_slot.i in
+    let l : i < length t.slots = omega (arith, t.all, c.in-Some-free_slot.ensures.0) in
+    let none = none_at_all t.slots z t.all c.in_default.ensures in
     let P : List Notice → Type 0 = λ w. Entered t.slots w z r in
-    let u = not_all_used t.slots i l c.in-Some-free-slot.ensures.1 in
-    (subst P (sym c.replace-2.ensures) (entered_free z r t.slots i l none c.in-Some-free-slot.ensures.1), λ full. absurd (omega (arith, u, full, t.all)))
+    let u = not_all_used t.slots i l c.in-Some-free_slot.ensures.1 in
+    (subst P (sym c.replace-2.ensures) (entered_free z r t.slots i l none c.in-Some-free_slot.ensures.1), λ full. absurd (omega (arith, u, full, t.all)))

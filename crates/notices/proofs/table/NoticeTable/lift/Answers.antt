@@ -5,10 +5,10 @@ use Rattle.notices.proofs.Entering.{found-one, found_none, none_at_all, others_t
 use Rattle.timetable.specs.declared.report.Report.TheVariants.{Nothing}
 use Rattle.notices.proofs.table.NoticeTable.lift.Goals as goal
 
-pub returns-in-default : goal.returns-in-default
-returns-in-default c =
+pub returns-in_default : goal.returns-in_default
+returns-in_default c =
     let t = c.args.self.now in
-    let n : found t.slots c.args.train.0 ≡ Nothing = found_none t.slots c.args.train.0 (none_at_all t.slots c.args.train.0 t.all c.in-default.ensures) in
+    let n : found t.slots c.args.train.0 ≡ Nothing = found_none t.slots c.args.train.0 (none_at_all t.slots c.args.train.0 t.all c.in_default.ensures) in
     (refl, ap stands n, refl)
 
 pub returns : goal.returns

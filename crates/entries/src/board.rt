@@ -1,8 +1,7 @@
+ghost use Rattle.std.specs.Prelude.{nat_lt};
 ghost use Rattle.entries.specs.Kinds.{board_ahead};
-ghost use Rattle.std.proofs.Common.{arith};
-ghost use Rattle.std.proofs.lemmas.Bool.Decides.{nat_tests};
 ghost use Rattle.entries.specs.declared.board.BoardEntry.{BoardEntry};
-ghost use Rattle.entries.specs.Lexical.{last_up, then-up};
+ghost use Rattle.entries.specs.Lexical.{first_below, last_up, then-up};
 
 use queue::Entry;
 use timetable::ConnectionNo;
@@ -24,7 +23,7 @@ impl Entry for BoardEntry {
           strict = o.strict;
           chain = o.chain;
           ties = λ x y p q. let e = o.ties x y p q in λ k. record { minute = e.0 k; connection = record { 0 = e.1 k } };
-          earlier = λ x y h. Prim.grind (arith, nat_tests);
+          earlier = λ x y. first_below x.minute y.minute (nat_lt x.connection.0 y.connection.0);
         } };
 
     fn minute(&self) -> u32 {

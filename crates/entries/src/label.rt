@@ -1,8 +1,7 @@
-ghost use Rattle.entries.specs.Kinds.{label_ahead};
-ghost use Rattle.std.proofs.Common.{arith};
-ghost use Rattle.std.proofs.lemmas.Bool.Decides.{nat_tests};
+ghost use Rattle.std.specs.Prelude.{nat_lt};
+ghost use Rattle.entries.specs.Kinds.{first_by, label_ahead};
 ghost use Rattle.entries.specs.declared.label.LabelEntry.{LabelEntry};
-ghost use Rattle.entries.specs.Lexical.{last_down, then-up, then-down};
+ghost use Rattle.entries.specs.Lexical.{first_below, last_down, then-up, then-down};
 
 use crate::numbers::{Place, Rank};
 use queue::Entry;
@@ -27,7 +26,7 @@ impl Entry for LabelEntry {
           strict = o.strict;
           chain = o.chain;
           ties = λ x y p q. let e = o.ties x y p q in λ k. record { minute = e.0 k; rank = record { 0 = e.1.0 k }; place = record { 0 = e.1.1.0 k }; origin = record { 0 = e.1.1.1 k } };
-          earlier = λ x y h. Prim.grind (arith, nat_tests);
+          earlier = λ x y. first_below x.minute y.minute (first_by y.rank.0 x.rank.0 (first_by x.place.0 y.place.0 (nat_lt y.origin.0 x.origin.0)));
         } };
 
     fn minute(&self) -> u32 {

@@ -1,11 +1,10 @@
 -- What a put and a take leave in the cells.
-use Rattle.std.proofs.Common.{◌≡◌, ℕ, zero, suc, ◌+◌, ◌-◌, ◌*◌, ◌<◌, ◌≤◌, min, Bool, true, false, List, [], ◌∷◌, ◌++◌, length, get_or, take, drop, set, sym, refl, ap, ◌∙◌, subst, ⊎_elim, append-nil, arith}
+use Rattle.std.proofs.Common.{◌≡◌, ℕ, zero, suc, ◌+◌, ◌<◌, ◌≤◌, Bool, false, List, [], ◌∷◌, ◌++◌, length, get_or, take, drop, set, sym, refl, ap, ◌∙◌, subst, arith}
 use Rattle.std.specs.List.{AllByRecursion}
-use Rattle.std.proofs.lemmas.Bool.{cases_eq}
-use Rattle.std.proofs.lemmas.List.{length-append, length-take, length-take-le, length-drop, length-set, take_at, take-take, take_more, take_all, drop_all, set_split, get_or-take, get_or_append_left, get_or-set_other, get_or_default, nil_from_length}
+use Rattle.std.proofs.lemmas.List.{length-append, length-take-le, length-drop, length-set, take_at, take-take, take_more, drop_all, set_split, get_or-take, get_or-set_other, get_or_default}
 use Rattle.std.proofs.ByRecursion.{All-from_get_or, All-take, All-set}
 use Rattle.queue.specs.Order.{Sound, inserted, sorted}
-use Rattle.heap.specs.Heaped.{Child, Heaped, Rising, Sinking}
+use Rattle.heap.specs.Heaped.{Heaped, Rising, Sinking}
 use Rattle.queue.proofs.Bag.{sorted_push, sorted-set, inserted-first, all_sorted}
 use Rattle.heap.proofs.Tree.{top}
 

@@ -1,5 +1,5 @@
 -- What the queue of a heap holds, and when it is in order.
-use Rattle.std.specs.Prelude.{◌≡◌, ℕ, ◌≤◌, Bool, List, length, take}
+use Rattle.std.specs.Prelude.{ℕ, ◌≤◌, Bool, List, length, take}
 use Rattle.heap.specs.declared.heap.Heap.{Heap}
 use Rattle.queue.specs.Order.{sorted}
 use Rattle.heap.specs.Heaped.{Heaped}

@@ -1,7 +1,7 @@
 -- The first fault among places: a loop's steps, and what it says of each record_at.
-use Rattle.std.proofs.Common.{◌≡◌, ℕ, zero, suc, ◌+◌, ◌-◌, ◌<◌, ◌≤◌, Some, None, Option, sym, refl, ap, ◌∙◌, subst, add-zero, arith}
+use Rattle.std.proofs.Common.{◌≡◌, ℕ, zero, suc, ◌+◌, ◌-◌, ◌<◌, ◌≤◌, Some, None, Option, refl, ap, ◌∙◌, add-zero, arith}
 use Rattle.refusals.specs.declared.refusal.Refusal.{Refusal}
-use Rattle.image.specs.Format.{or_else, unless, first}
+use Rattle.image.specs.Format.{or_else, first}
 
 module _ (f : ℕ → Option Refusal) where
   -- at a record_at that is left

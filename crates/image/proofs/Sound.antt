@@ -1,13 +1,12 @@
 -- What bytes that open are known to hold.
-use Rattle.std.proofs.Common.{◌≡◌, ℕ, zero, suc, ◌+◌, ◌-◌, ◌*◌, ◌<◌, ◌≤◌, Bool, true, false, not, ◌&&◌, ◌||◌, eqb, ltb, leb, List, map, length, get_or, is_ok, Some, None, Ok, Option, sym, refl, ap, ◌∙◌, subst, zero-add, arith}
-use Rattle.std.specs.List.{range_with_len}
+use Rattle.std.proofs.Common.{◌≡◌, ℕ, ◌+◌, ◌-◌, ◌*◌, ◌<◌, ◌≤◌, Bool, true, false, not, ◌&&◌, ◌||◌, eqb, ltb, leb, List, length, get_or, is_ok, Some, None, Ok, Option, refl, subst, zero-add, arith}
 use Rattle.std.proofs.lemmas.Bool.Decides.{nat_tests}
 use Rattle.std.proofs.lemmas.Bool.{both_ways, not-true, eqb-true, eqb-false, leb-true}
 use Rattle.refusals.specs.declared.refusal.Refusal.TheVariants.{RecordLimit, SameStation, BrokenTrain}
 use Rattle.std.proofs.lemmas.List.FromFn.{length-map-range_with_len, get_or-map-range_with_len}
 use Rattle.timetable.specs.Table.{Table, stations, connections, no_connection, at, Lawful, LawfulConnection}
 use Rattle.refusals.specs.declared.refusal.Refusal.{Refusal}
-use Rattle.image.specs.Format.{or_else, unless, first, fault, opened, opened_by, front_fault, limits_fault, length_fault, transfer_fault, record_fault, fields_ok, goes_on, number, version_in, period_in, stations_in, trains_in, connections_in, transfer_in, record_at, connection_in, table_in}
+use Rattle.image.specs.Format.{or_else, unless, first, fault, opened, opened_by, front_fault, limits_fault, length_fault, transfer_fault, record_fault, fields_ok, goes_on, number, period_in, stations_in, trains_in, connections_in, transfer_in, record_at, connection_in, table_in}
 use Rattle.image.proofs.First.{or_left, or_right, first-each}
 
 abbrev pub Opens : List ℕ → Type 0

@@ -1,6 +1,7 @@
 //! The reader. The struct stands alone here; what it does is in the modules below.
 
 ghost use Rattle.std.specs.Prelude.{◌≡◌, true, is_ok};
+ghost use Rattle.timetable.specs.Table.{Lawful};
 ghost use Rattle.image.specs.Format.{opened, table_in};
 ghost use Rattle.image.specs.Written.{smallest};
 
@@ -12,6 +13,7 @@ mod reading;
 pub struct Image<'a> {
     bytes: &'a [u8],
     ghost sound: { is_ok (opened bytes.now) ≡ true },
+    ghost lawful: { Lawful (table_in bytes.now) },
 }
 
 impl<'a> Image<'a> {

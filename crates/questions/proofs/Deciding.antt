@@ -1,5 +1,5 @@
 -- Each way in which a label gives another is decided by one test.
-use Rattle.std.proofs.Common.{◌≡◌, ℕ, ◌+◌, ◌<◌, ◌≤◌, true, false, eqb, ◌⊎◌, MatchBool, sym, refl, ap, ◌∙◌, subst, inl, inr, arith}
+use Rattle.std.proofs.Common.{◌≡◌, ℕ, ◌+◌, ◌<◌, true, false, eqb, ◌⊎◌, MatchBool, sym, refl, ap, ◌∙◌, inl, inr, arith}
 use Rattle.std.proofs.lemmas.Bool.{cases_Bool, eqb-true, eqb-false}
 use Rattle.timetable.specs.declared.connection.Connection.{Connection}
 use Rattle.timetable.specs.Table.{Table, at, connections, transfer, ahead, stand, next_departure}

@@ -13,6 +13,8 @@ use timetable::{Connection, ConnectionNo, Means, Station, Timetable};
 
 impl Means for Image<'_> {
     ghost meaning = { means };
+
+    ghost lawful = { λ x. x.lawful };
 }
 
 impl Timetable for Image<'_> {

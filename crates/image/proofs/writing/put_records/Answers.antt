@@ -1,4 +1,4 @@
-use Rattle.std.proofs.Common.{◌≡◌, ◌+◌, ◌*◌, refl, ap, ◌∙◌, arith, rules}
+use Rattle.std.proofs.Common.{◌+◌, ◌*◌, refl, ap, ◌∙◌, arith, rules}
 use Rattle.std.proofs.lemmas.List.Edits.{paste_none}
 use Rattle.timetable.specs.Table.{stations, no_connection}
 use Rattle.image.specs.Written.{record_bytes}
@@ -11,7 +11,7 @@ loop-c-init g c = search (rules, paste_none)
 pub loop-c-preserved : goal.loop-c-preserved
 loop-c-preserved g c =
     let t = g.T.Means.meaning c.args.t.now in
-    put_step record_bytes 12 (λ _. refl) c.args.out.now (16 + 2 * stations t) t.list c.loop-c.c no_connection c.loop-c.out c.put.new.out c.record-bytes.result c.record-place.result (omega arith) (omega arith) c.loop-c.invariant (omega arith) (c.record-bytes.ensures ∙ ap record_bytes c.connection-at.ensures) c.put.ensures
+    put_step record_bytes 12 (λ _. refl) c.args.out.now (16 + 2 * stations t) t.list c.loop-c.c no_connection c.loop-c.out c.put.new.out c.record_bytes.result c.record_place.result (omega arith) (omega arith) c.loop-c.invariant (omega arith) (c.record_bytes.ensures ∙ ap record_bytes c.connection_at.ensures) c.put.ensures
 
 pub returns : goal.returns
 returns g c =

@@ -1,4 +1,4 @@
-use Rattle.std.proofs.Common.{ℕ, ◌+◌, sym, ap, ◌∙◌, arith}
+use Rattle.std.proofs.Common.{arith}
 use Rattle.answers.proofs.Walking.{step-first, step-not-first, step_past, step_given, step-not-given, read-origin}
 use Rattle.questions.proofs.chain.step_back.Goals as goal
 use Rattle.questions.proofs.chain.step_back.Goals.{else-place-from-via-then-place-from+else-label-first, else-place-from-via-else-place-from}

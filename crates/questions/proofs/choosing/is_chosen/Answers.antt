@@ -1,4 +1,4 @@
-use Rattle.std.proofs.Common.{◌≡◌, ℕ, sym, ap, ◌∙◌, below_more}
+use Rattle.std.proofs.Common.{ℕ, sym, ap, ◌∙◌, below_more}
 use Rattle.timetable.specs.declared.label.Label.{Label}
 use Rattle.answers.specs.Rowwise.{Comes, Yields}
 use Rattle.questions.proofs.choosing.is_chosen.Goals as goal

@@ -1,4 +1,4 @@
-use Rattle.std.proofs.Common.{◌≡◌, ℕ, ◌<◌, List, length, sym, refl, subst, inl, inr, arith}
+use Rattle.std.proofs.Common.{◌≡◌, ℕ, ◌<◌, List, length, sym, refl, subst, inr, arith}
 use Rattle.std.proofs.lemmas.Result.{err_from_is_err_and}
 use Rattle.refusals.specs.declared.refusal.Refusal.{Refusal}
 use Rattle.refusals.specs.declared.refusal.Refusal.TheVariants.{Unreachable}
@@ -24,42 +24,42 @@ module _ (t : Table) (law : Lawful t) (m : ℕ) (memory : List Label) (v n : ℕ
   nowhere : AllOwn t m memory v → ((j : ℕ) → ChosenRow w memory j → ⊥) → (r : Refusal) → r ≡ Unreachable v → RowsRefused t m memory v r
   nowhere own f r q = unreached own (none_chosen t law m memory v own (subst (λ (y : View). (j : ℕ) → ChosenRow y memory j → ⊥) e f)) q
 
-pub check-rows-requires : goal.check-rows-requires
-check-rows-requires g c =
+pub check_rows-requires : goal.check_rows-requires
+check_rows-requires g c =
     let t = g.T.Means.meaning c.args.t.now in
     let law = g.T.Means.lawful c.args.t.now in
-    let a = c.in-ok-view.ensures in
+    let a = c.in_ok-view.ensures in
     subst (λ (y : View). Within y (length c.args.memory.now)) (sym a.1) (within_asked t law c.args.standing.source.0 c.args.standing.rows c.args.target.0 (length c.args.memory.now) (omega arith) c.args.minute a.0).1
 
-pub returns-in-err-check-rows : goal.returns-in-err-check-rows
-returns-in-err-check-rows g c =
+pub returns-in_err-check_rows : goal.returns-in_err-check_rows
+returns-in_err-check_rows g c =
     let t = g.T.Means.meaning c.args.t.now in
     let law = g.T.Means.lawful c.args.t.now in
-    let a = c.in-ok-view.ensures in
-    let p = err_from_is_err_and c.from-residual-in-err-check-rows.result c.from-residual-in-err-check-rows.ensures.1 in
-    let b = c.in-err-check-rows.ensures in
-    rw (p.1, p.2) (inr (a.0, foreign b.0 (first_foreign t c.args.standing.rows c.args.memory.now c.args.target.0 c.in-ok-view.view a.1 b.0 b.1) b.2))
+    let a = c.in_ok-view.ensures in
+    let p = err_from_is_err_and c.from_residual-in_err-check_rows.result c.from_residual-in_err-check_rows.ensures.1 in
+    let b = c.in_err-check_rows.ensures in
+    rw (p.1, p.2) (inr (a.0, foreign b.0 (first_foreign t c.args.standing.rows c.args.memory.now c.args.target.0 c.in_ok-view.view a.1 b.0 b.1) b.2))
 
-pub first-pair-requires : goal.first-pair-requires
-first-pair-requires g c =
+pub first_pair-requires : goal.first_pair-requires
+first_pair-requires g c =
     let t = g.T.Means.meaning c.args.t.now in
     let law = g.T.Means.lawful c.args.t.now in
-    let a = c.in-ok-view.ensures in
+    let a = c.in_ok-view.ensures in
     subst (λ (y : View). Within y (length c.args.memory.now)) (sym a.1) (within_asked t law c.args.standing.source.0 c.args.standing.rows c.args.target.0 (length c.args.memory.now) (omega arith) c.args.minute a.0).1
 
 pub returns-in-Some : goal.returns-in-Some
 returns-in-Some g c =
     let t = g.T.Means.meaning c.args.t.now in
     let law = g.T.Means.lawful c.args.t.now in
-    let a = c.in-ok-view.ensures in
+    let a = c.in_ok-view.ensures in
     let k = within_asked t law c.args.standing.source.0 c.args.standing.rows c.args.target.0 (length c.args.memory.now) (omega arith) c.args.minute a.0 in
-    let own = all_own t c.args.standing.rows c.args.memory.now c.args.target.0 c.in-ok-view.view a.1 c.in-ok-check-rows.ensures in
-    (a.0, found t law c.args.standing.rows c.args.memory.now c.args.target.0 c.args.minute c.in-ok-view.view a.1 k.0 (subst (λ (y : View). Within y (length c.args.memory.now)) (sym a.1) k.1) c.in-Some.hit own c.in-Some.ensures)
+    let own = all_own t c.args.standing.rows c.args.memory.now c.args.target.0 c.in_ok-view.view a.1 c.in_ok-check_rows.ensures in
+    (a.0, found t law c.args.standing.rows c.args.memory.now c.args.target.0 c.args.minute c.in_ok-view.view a.1 k.0 (subst (λ (y : View). Within y (length c.args.memory.now)) (sym a.1) k.1) c.in-Some.hit own c.in-Some.ensures)
 
 pub returns-in-None : goal.returns-in-None
 returns-in-None g c =
     let t = g.T.Means.meaning c.args.t.now in
     let law = g.T.Means.lawful c.args.t.now in
-    let a = c.in-ok-view.ensures in
-    let own = all_own t c.args.standing.rows c.args.memory.now c.args.target.0 c.in-ok-view.view a.1 c.in-ok-check-rows.ensures in
-    inr (a.0, nowhere t law c.args.standing.rows c.args.memory.now c.args.target.0 c.args.minute c.in-ok-view.view a.1 own c.in-None.ensures _ refl)
+    let a = c.in_ok-view.ensures in
+    let own = all_own t c.args.standing.rows c.args.memory.now c.args.target.0 c.in_ok-view.view a.1 c.in_ok-check_rows.ensures in
+    inr (a.0, nowhere t law c.args.standing.rows c.args.memory.now c.args.target.0 c.args.minute c.in_ok-view.view a.1 own c.in-None.ensures _ refl)

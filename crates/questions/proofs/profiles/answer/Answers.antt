@@ -1,6 +1,5 @@
-use Rattle.std.proofs.Common.{◌≡◌, ℕ, ◌<◌, ◌≤◌, List, ◌++◌, length, drop, sym, refl, ap, ◌∙◌, subst, inl, inr, arith}
+use Rattle.std.proofs.Common.{◌≡◌, ℕ, ◌<◌, ◌≤◌, List, ◌++◌, length, drop, sym, refl, ap, ◌∙◌, subst, inr, arith}
 use Rattle.std.proofs.lemmas.Result.{err_from_is_err_and}
-use Rattle.refusals.specs.declared.refusal.Refusal.{Refusal}
 use Rattle.refusals.specs.declared.refusal.Refusal.TheVariants.{Unreachable, ShortAnswer}
 use Rattle.timetable.specs.declared.label.Label.{Label}
 use Rattle.timetable.specs.declared.pair.Pair.{Pair}
@@ -31,56 +30,56 @@ module _ (t : Table) (law : Lawful t) (m : ℕ) (memory : List Label) (v : ℕ) 
         let s = same_list w memory j l in
         record { own = own; pairs = ps; profile = profile t law m memory v own listed; some = omega arith; number = q; fits = f; written = o ∙ ap (λ (z : List Pair). z ++ drop (length z) out) s ∙ ap (λ (z : ℕ). ps ++ drop z out) (sym q) }
 
-pub check-rows-requires : goal.check-rows-requires
-check-rows-requires g c =
-    let a = c.in-ok-view.ensures in
+pub check_rows-requires : goal.check_rows-requires
+check_rows-requires g c =
+    let a = c.in_ok-view.ensures in
     subst (λ (y : View). Within y (length c.args.memory.now)) (sym a.1) (within_profile (g.T.Means.meaning c.args.t.now) (g.T.Means.lawful c.args.t.now) c.args.standing.source.0 c.args.standing.rows c.args.target.0 (length c.args.memory.now) (omega arith) a.0)
 
 pub count-pairs-requires : goal.count-pairs-requires
 count-pairs-requires g c =
-    let a = c.in-ok-view.ensures in
+    let a = c.in_ok-view.ensures in
     subst (λ (y : View). Within y (length c.args.memory.now)) (sym a.1) (within_profile (g.T.Means.meaning c.args.t.now) (g.T.Means.lawful c.args.t.now) c.args.standing.source.0 c.args.standing.rows c.args.target.0 (length c.args.memory.now) (omega arith) a.0)
 
 pub write-requires : goal.write-requires
 write-requires g c =
-    let a = c.in-ok-view.ensures in
+    let a = c.in_ok-view.ensures in
     let l = c.count-pairs.ensures in
     record {
       within = subst (λ (y : View). Within y (length c.args.memory.now)) (sym a.1) (within_profile (g.T.Means.meaning c.args.t.now) (g.T.Means.lawful c.args.t.now) c.args.standing.source.0 c.args.standing.rows c.args.target.0 (length c.args.memory.now) (omega arith) a.0);
       fits = (l.0, l.1, omega (arith, l.2, c.if-out-pairs.false));
     }
 
-pub returns-in-err-check-rows : goal.returns-in-err-check-rows
-returns-in-err-check-rows g c =
-    let a = c.in-ok-view.ensures in
-    let p = err_from_is_err_and c.from-residual-in-err-check-rows.result c.from-residual-in-err-check-rows.ensures.1 in
-    let b = c.in-err-check-rows.ensures in
-    rw (p.1, p.2) (refl, inr (a.0, rows (foreign b.0 (first_foreign (g.T.Means.meaning c.args.t.now) c.args.standing.rows c.args.memory.now c.args.target.0 c.in-ok-view.view a.1 b.0 b.1) b.2)))
+pub returns-in_err-check_rows : goal.returns-in_err-check_rows
+returns-in_err-check_rows g c =
+    let a = c.in_ok-view.ensures in
+    let p = err_from_is_err_and c.from_residual-in_err-check_rows.result c.from_residual-in_err-check_rows.ensures.1 in
+    let b = c.in_err-check_rows.ensures in
+    rw (p.1, p.2) (refl, inr (a.0, rows (foreign b.0 (first_foreign (g.T.Means.meaning c.args.t.now) c.args.standing.rows c.args.memory.now c.args.target.0 c.in_ok-view.view a.1 b.0 b.1) b.2)))
 
 pub returns-then-pairs-eq0 : goal.returns-then-pairs-eq0
 returns-then-pairs-eq0 g c =
     let t = g.T.Means.meaning c.args.t.now in
     let law = g.T.Means.lawful c.args.t.now in
-    let a = c.in-ok-view.ensures in
-    let own = all_own t c.args.standing.rows c.args.memory.now c.args.target.0 c.in-ok-view.view a.1 c.in-ok-check-rows.ensures in
+    let a = c.in_ok-view.ensures in
+    let own = all_own t c.args.standing.rows c.args.memory.now c.args.target.0 c.in_ok-view.view a.1 c.in_ok-check_rows.ensures in
     let l = c.count-pairs.ensures in
-    (refl, inr (a.0, nowhere t law c.args.standing.rows c.args.memory.now c.args.target.0 c.in-ok-view.view a.1 own l.0 l.1 (length c.args.out.now) (sym l.2 ∙ c.if-pairs-eq0.true)))
+    (refl, inr (a.0, nowhere t law c.args.standing.rows c.args.memory.now c.args.target.0 c.in_ok-view.view a.1 own l.0 l.1 (length c.args.out.now) (sym l.2 ∙ c.if-pairs-eq0.true)))
 
 pub returns-then-out-pairs : goal.returns-then-out-pairs
 returns-then-out-pairs g c =
     let t = g.T.Means.meaning c.args.t.now in
     let law = g.T.Means.lawful c.args.t.now in
-    let a = c.in-ok-view.ensures in
-    let own = all_own t c.args.standing.rows c.args.memory.now c.args.target.0 c.in-ok-view.view a.1 c.in-ok-check-rows.ensures in
+    let a = c.in_ok-view.ensures in
+    let own = all_own t c.args.standing.rows c.args.memory.now c.args.target.0 c.in_ok-view.view a.1 c.in_ok-check_rows.ensures in
     let l = c.count-pairs.ensures in
-    (refl, inr (a.0, too_short t law c.args.standing.rows c.args.memory.now c.args.target.0 c.in-ok-view.view a.1 own l.0 l.1 (length c.args.out.now) c.count-pairs.result c.if-out-pairs.true l.2))
+    (refl, inr (a.0, too_short t law c.args.standing.rows c.args.memory.now c.args.target.0 c.in_ok-view.view a.1 own l.0 l.1 (length c.args.out.now) c.count-pairs.result c.if-out-pairs.true l.2))
 
 pub returns : goal.returns
 returns g c =
     let t = g.T.Means.meaning c.args.t.now in
     let law = g.T.Means.lawful c.args.t.now in
-    let a = c.in-ok-view.ensures in
-    let own = all_own t c.args.standing.rows c.args.memory.now c.args.target.0 c.in-ok-view.view a.1 c.in-ok-check-rows.ensures in
+    let a = c.in_ok-view.ensures in
+    let own = all_own t c.args.standing.rows c.args.memory.now c.args.target.0 c.in_ok-view.view a.1 c.in_ok-check_rows.ensures in
     let l = c.count-pairs.ensures in
     let o = c.write.ensures in
-    (a.0, given t law c.args.standing.rows c.args.memory.now c.args.target.0 c.in-ok-view.view a.1 own l.0 l.1 c.count-pairs.result c.args.out.now c.write.new.out o.0 o.1 c.if-pairs-eq0.false c.if-out-pairs.false l.2 o.2)
+    (a.0, given t law c.args.standing.rows c.args.memory.now c.args.target.0 c.in_ok-view.view a.1 own l.0 l.1 c.count-pairs.result c.args.out.now c.write.new.out o.0 o.1 c.if-pairs-eq0.false c.if-out-pairs.false l.2 o.2)

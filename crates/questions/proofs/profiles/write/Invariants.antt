@@ -1,4 +1,4 @@
-use Rattle.std.proofs.Common.{◌≡◌, ◌≤◌, List, length, take, drop}
+use Rattle.std.proofs.Common.{◌≡◌, List, length, take, drop}
 use Rattle.timetable.specs.declared.pair.Pair.{Pair}
 use Rattle.answers.specs.Rowwise.{Listed}
 use Rattle.questions.proofs.profiles.write.Given as goal

@@ -4,8 +4,8 @@ use Rattle.timetable.specs.Rows.{blank}
 use Rattle.answers.proofs.Seen.{inside}
 use Rattle.questions.proofs.rows.entry.Goals as goal
 
-pub offset-bounds-memory-row : goal.offset-bounds-memory-row
-offset-bounds-memory-row c = omega (arith, (inside c.args.view (length c.args.memory.now) c.args.row (1 + c.args.place) c.requires.within c.requires.row c.requires.place).1)
+pub offset_bounds-memory-row : goal.offset_bounds-memory-row
+offset_bounds-memory-row c = omega (arith, (inside c.args.view (length c.args.memory.now) c.args.row (1 + c.args.place) c.requires.within c.requires.row c.requires.place).1)
 
 pub bounds-memory-row : goal.bounds-memory-row
 bounds-memory-row c = omega (arith, (inside c.args.view (length c.args.memory.now) c.args.row (1 + c.args.place) c.requires.within c.requires.row c.requires.place).0)

@@ -55,23 +55,23 @@ refused : (P : Type 0) (t : Table) (m : â„•) (memory : List Label) (v n room : â
 refused P t m memory v n room e Q (inl h) = inl h
 refused P t m memory v n room e Q (inr h) = inr (h.0, rows h.1)
 
-pub returns-in-err-found : goal.returns-in-err-found
-returns-in-err-found g c =
-    let p = err_from_is_err_and c.from-residual.result c.from-residual.ensures.1 in
-    rw (p.1, p.2) (refl, refused _ (g.T.Means.meaning c.args.t.now) c.args.standing.rows c.args.memory.now c.args.target.0 c.args.minute (length c.args.out.now) _ _ c.in-err-found.ensures)
+pub returns-in_err-found : goal.returns-in_err-found
+returns-in_err-found g c =
+    let p = err_from_is_err_and c.from_residual.result c.from_residual.ensures.1 in
+    rw (p.1, p.2) (refl, refused _ (g.T.Means.meaning c.args.t.now) c.args.standing.rows c.args.memory.now c.args.target.0 c.args.minute (length c.args.out.now) _ _ c.in_err-found.ensures)
 
-pub returns-in-default : goal.returns-in-default
-returns-in-default g c = (refl, inr (c.in-ok-found.ensures.0, no_way_back (g.T.Means.meaning c.args.t.now) (g.T.Means.lawful c.args.t.now) c.args.standing.rows c.args.memory.now c.args.target.0 c.args.minute c.in-ok-found.found c.in-ok-found.ensures.1 (length c.args.out.now) c.in-default.ensures))
+pub returns-in_default : goal.returns-in_default
+returns-in_default g c = (refl, inr (c.in_ok-found.ensures.0, no_way_back (g.T.Means.meaning c.args.t.now) (g.T.Means.lawful c.args.t.now) c.args.standing.rows c.args.memory.now c.args.target.0 c.args.minute c.in_ok-found.found c.in_ok-found.ensures.1 (length c.args.out.now) c.in_default.ensures))
 
 pub returns-then-out-legs : goal.returns-then-out-legs
 returns-then-out-legs g c =
     let y = c.in-Some.ensures in
-    (refl, inr (c.in-ok-found.ensures.0, too_short (g.T.Means.meaning c.args.t.now) (g.T.Means.lawful c.args.t.now) c.args.standing.rows c.args.memory.now c.args.target.0 c.args.minute c.in-ok-found.found c.in-ok-found.ensures.1 y.0 y.1 (length c.args.out.now) c.in-Some.legs y.2 c.if-out-legs.true))
+    (refl, inr (c.in_ok-found.ensures.0, too_short (g.T.Means.meaning c.args.t.now) (g.T.Means.lawful c.args.t.now) c.args.standing.rows c.args.memory.now c.args.target.0 c.args.minute c.in_ok-found.found c.in_ok-found.ensures.1 y.0 y.1 (length c.args.out.now) c.in-Some.legs y.2 c.if-out-legs.true))
 
-pub write-legs-requires : goal.write-legs-requires
-write-legs-requires g c = record {
-  stands = row_stands (g.T.Means.meaning c.args.t.now) (g.T.Means.lawful c.args.t.now) c.args.standing.rows c.args.memory.now c.args.target.0 c.args.minute c.in-ok-found.found c.in-ok-found.ensures.1;
-  later = later_small (g.T.Means.meaning c.args.t.now) (g.T.Means.lawful c.args.t.now) c.args.standing.rows c.args.memory.now c.args.target.0 c.args.minute c.in-ok-found.found c.in-ok-found.ensures.1;
+pub write_legs-requires : goal.write_legs-requires
+write_legs-requires g c = record {
+  stands = row_stands (g.T.Means.meaning c.args.t.now) (g.T.Means.lawful c.args.t.now) c.args.standing.rows c.args.memory.now c.args.target.0 c.args.minute c.in_ok-found.found c.in_ok-found.ensures.1;
+  later = later_small (g.T.Means.meaning c.args.t.now) (g.T.Means.lawful c.args.t.now) c.args.standing.rows c.args.memory.now c.args.target.0 c.args.minute c.in_ok-found.found c.in_ok-found.ensures.1;
   chain = c.in-Some.ensures;
   fits = c.if-out-legs.false;
 }
@@ -79,5 +79,5 @@ write-legs-requires g c = record {
 pub returns : goal.returns
 returns g c =
     let y = c.in-Some.ensures in
-    let z = c.write-legs.ensures in
-    (c.in-ok-found.ensures.0, given (g.T.Means.meaning c.args.t.now) (g.T.Means.lawful c.args.t.now) c.args.standing.rows c.args.memory.now c.args.target.0 c.args.minute c.in-ok-found.found c.in-ok-found.ensures.1 y.0 y.1 c.in-Some.legs c.args.out.now c.write-legs.new.out z.0 z.1 y.2 c.if-out-legs.false z.2)
+    let z = c.write_legs.ensures in
+    (c.in_ok-found.ensures.0, given (g.T.Means.meaning c.args.t.now) (g.T.Means.lawful c.args.t.now) c.args.standing.rows c.args.memory.now c.args.target.0 c.args.minute c.in_ok-found.found c.in_ok-found.ensures.1 y.0 y.1 c.in-Some.legs c.args.out.now c.write_legs.new.out z.0 z.1 y.2 c.if-out-legs.false z.2)

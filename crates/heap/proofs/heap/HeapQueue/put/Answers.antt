@@ -8,10 +8,10 @@ use Rattle.queue.proofs.Bag.{length-sorted}
 use Rattle.heap.proofs.Ends.{front_length, front_is, put-rising, put-bag}
 use Rattle.heap.proofs.heap.HeapQueue.put.Goals as goal
 
-pub returns-in-err-check-room : goal.returns-in-err-check-room
-returns-in-err-check-room g c =
-    let told = c.in-err-check-room.ensures in
-    let p = err_from_is_err_and c.from-residual.result c.from-residual.ensures.1 in
+pub returns-in_err-check_room : goal.returns-in_err-check_room
+returns-in_err-check_room g c =
+    let told = c.in_err-check_room.ensures in
+    let p = err_from_is_err_and c.from_residual.result c.from_residual.ensures.1 in
     record {
       room = refl;
       ordered = λ h. h;
@@ -26,7 +26,7 @@ returns g c =
     let k = n + 1 - 0 in
     let e = c.args.e in
     let ys = c.rise.new.cells in
-    let below : n < length xs = c.in-ok-check-room.ensures in
+    let below : n < length xs = c.in_ok-check_room.ensures in
     let is : k ≡ n + 1 = omega arith in
     let within : k ≤ length xs = omega arith in
     let size : length (ys ++ drop k xs) ≡ length xs = front_length xs ys k within c.rise.auto.cells in

@@ -3,4 +3,4 @@ use Rattle.image.proofs.Sound.{connections_is}
 use Rattle.image.proofs.image.reading.ImageTimetable.connections.Goals as goal
 
 pub returns : goal.returns
-returns c = c.connections-of.ensures ∙ sym (connections_is c.args.self.now.bytes.now)
+returns c = c.connections_of.ensures ∙ sym (connections_is c.args.self.now.bytes.now)

@@ -12,15 +12,15 @@ pub loop-c-init : goal.loop-c-init
 unfolding firsts_below
 loop-c-init g c = record { in_order = c.requires.ordered; same_room = refl; holds = c.requires.none }
 
-pub add-some-requires : goal.add-some-requires
-add-some-requires g c =
+pub add_some-requires : goal.add_some-requires
+add_some-requires g c =
     let t = g.T.Means.meaning c.args.t.now in
     let s = c.args.source.0 in
     record {
       ordered = c.loop-c.invariant.in_order;
       fits = omega (
         arith,
-        ap length c.departure-of.ensures,
+        ap length c.departure_of.ensures,
         ap length c.loop-c.invariant.holds,
         length-map (firsts_below t s c.loop-c.c) (board_entry t),
         c.loop-c.invariant.same_room,
@@ -33,7 +33,7 @@ loop-c-preserved g c =
     let t = g.T.Means.meaning c.args.t.now in
     let s = c.args.source.0 in
     record {
-      in_order = c.add-some.ensures.in_order;
-      same_room = c.add-some.ensures.same_room ∙ c.loop-c.invariant.same_room;
-      holds = c.add-some.ensures.holds ∙ ap (λ (z : List BoardEntry). put_all board_ahead z (g.B.Queue.bag c.loop-c.board)) c.departure-of.ensures ∙ ap (put_all board_ahead (departure_by t s c.loop-c.c)) c.loop-c.invariant.holds ∙ boarded-more t s c.loop-c.c;
+      in_order = c.add_some.ensures.in_order;
+      same_room = c.add_some.ensures.same_room ∙ c.loop-c.invariant.same_room;
+      holds = c.add_some.ensures.holds ∙ ap (λ (z : List BoardEntry). put_all board_ahead z (g.B.Queue.bag c.loop-c.board)) c.departure_of.ensures ∙ ap (put_all board_ahead (departure_by t s c.loop-c.c)) c.loop-c.invariant.holds ∙ boarded-more t s c.loop-c.c;
     }

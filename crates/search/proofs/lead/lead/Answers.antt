@@ -16,8 +16,8 @@ known t x n e h k = omega arith
 itself : (t : Table) → Lawful t → (x : Entry) (n : ℕ) → n ≡ stations t → n ≤ x.place → x.place < places t → leads t x ≡ leads_by t x (x.place - n)
 itself t law x n e h k = leads-at t law x (x.place - n) (known t x n e h k) (omega arith)
 
-pub lead-by-requires : goal.lead-by-requires
-lead-by-requires g c =
+pub lead_by-requires : goal.lead_by-requires
+lead_by-requires g c =
     let t = g.T.Means.meaning c.args.t.now in
     let law = g.T.Means.lawful c.args.t.now in
     let n : c.from-stations.result ≡ stations t = c.from-stations.ensures ∙ c.stations.ensures in
@@ -33,4 +33,4 @@ returns-else-x-stations g c =
     let t = g.T.Means.meaning c.args.t.now in
     let law = g.T.Means.lawful c.args.t.now in
     let n : c.from-stations.result ≡ stations t = c.from-stations.ensures ∙ c.stations.ensures in
-    subst (λ (z : List Entry). Grown label_ahead g.L.Queue.ordered g.L.Queue.bag g.L.Queue.room (map waiting z) c.args.labels.now c.lead-by.new.labels) (sym (itself t law (seen c.args.x) c.from-stations.result n c.if-x-stations.false c.requires.place)) c.lead-by.ensures
+    subst (λ (z : List Entry). Grown label_ahead g.L.Queue.ordered g.L.Queue.bag g.L.Queue.room (map waiting z) c.args.labels.now c.lead_by.new.labels) (sym (itself t law (seen c.args.x) c.from-stations.result n c.if-x-stations.false c.requires.place)) c.lead_by.ensures

@@ -14,8 +14,8 @@ use Rattle.search.proofs.lead.lead_all.Goals as goal
 pub loop-c-init : goal.loop-c-init
 loop-c-init g c = grown_none label_ahead g.L.Queue.ordered g.L.Queue.bag g.L.Queue.room c.args.labels.now c.requires.ordered
 
-pub lead-by-requires : goal.lead-by-requires
-lead-by-requires g c =
+pub lead_by-requires : goal.lead_by-requires
+lead_by-requires g c =
     let t = g.T.Means.meaning c.args.t.now in
     let x = seen c.args.x in
     let f = leads_by t x in
@@ -30,5 +30,5 @@ lead-by-requires g c =
 pub loop-c-preserved : goal.loop-c-preserved
 loop-c-preserved g c =
     let f = leads_by (g.T.Means.meaning c.args.t.now) (seen c.args.x) in
-    rw add-one (subst (λ (z : List LabelEntry). Grown label_ahead g.L.Queue.ordered g.L.Queue.bag g.L.Queue.room z c.args.labels.now c.lead-by.new.labels) (sym (map-append waiting (f c.loop-c.c) (each f c.loop-c.c)))
-    (grown-then label_ahead g.L.Queue.ordered g.L.Queue.bag g.L.Queue.room (map waiting (f c.loop-c.c)) (map waiting (each f c.loop-c.c)) c.args.labels.now c.loop-c.labels c.lead-by.new.labels c.loop-c.invariant c.lead-by.ensures))
+    rw add-one (subst (λ (z : List LabelEntry). Grown label_ahead g.L.Queue.ordered g.L.Queue.bag g.L.Queue.room z c.args.labels.now c.lead_by.new.labels) (sym (map-append waiting (f c.loop-c.c) (each f c.loop-c.c)))
+    (grown-then label_ahead g.L.Queue.ordered g.L.Queue.bag g.L.Queue.room (map waiting (f c.loop-c.c)) (map waiting (each f c.loop-c.c)) c.args.labels.now c.loop-c.labels c.lead_by.new.labels c.loop-c.invariant c.lead_by.ensures))

@@ -28,38 +28,38 @@ parts_length t x c r s u e f h = omega (
   length-append (stay_by t x c) (change_by t x c),
 )
 
-pub add-some-requires : goal.add-some-requires
-add-some-requires g c =
+pub add_some-requires : goal.add_some-requires
+add_some-requires g c =
     let t = g.T.Means.meaning c.args.t.now in
     let x = seen c.args.x in
     let n = c.args.number.0 in
     record {
       ordered = c.requires.ordered;
-      fits = omega (arith, c.requires.fits, ap length c.change-of.ensures, parts_length t x n (map waiting (ride_by t x n)) (map waiting (stay_by t x n)) (map waiting (change_by t x n)) refl refl refl);
+      fits = omega (arith, c.requires.fits, ap length c.change_of.ensures, parts_length t x n (map waiting (ride_by t x n)) (map waiting (stay_by t x n)) (map waiting (change_by t x n)) refl refl refl);
     }
 
-pub add-some-requires-2 : goal.add-some-requires-2
-add-some-requires-2 g c =
+pub add_some-requires-2 : goal.add_some-requires-2
+add_some-requires-2 g c =
     let t = g.T.Means.meaning c.args.t.now in
     let x = seen c.args.x in
     let n = c.args.number.0 in
     record {
-      ordered = c.add-some.ensures.in_order;
-      fits = fits_more label_ahead g.L.Queue.ordered g.L.Queue.bag g.L.Queue.room (length (leads_by t x n)) (length (those c.stay-of.result)) (those c.change-of.result) c.args.labels.now c.add-some.new.q c.add-some.ensures
-          (omega (arith, parts_length t x n (map waiting (ride_by t x n)) (those c.stay-of.result) (those c.change-of.result) refl c.stay-of.ensures c.change-of.ensures))
+      ordered = c.add_some.ensures.in_order;
+      fits = fits_more label_ahead g.L.Queue.ordered g.L.Queue.bag g.L.Queue.room (length (leads_by t x n)) (length (those c.stay_of.result)) (those c.change_of.result) c.args.labels.now c.add_some.new.q c.add_some.ensures
+          (omega (arith, parts_length t x n (map waiting (ride_by t x n)) (those c.stay_of.result) (those c.change_of.result) refl c.stay_of.ensures c.change_of.ensures))
           c.requires.fits;
     }
 
-pub add-some-requires-3 : goal.add-some-requires-3
-add-some-requires-3 g c =
+pub add_some-requires-3 : goal.add_some-requires-3
+add_some-requires-3 g c =
     let t = g.T.Means.meaning c.args.t.now in
     let x = seen c.args.x in
     let n = c.args.number.0 in
     record {
-      ordered = c.add-some-2.ensures.in_order;
-      fits = fits_more label_ahead g.L.Queue.ordered g.L.Queue.bag g.L.Queue.room (length (leads_by t x n)) (length (those c.ride-of.result)) (those c.stay-of.result ++ those c.change-of.result) c.args.labels.now c.add-some-2.new.q
-          (grown-then label_ahead g.L.Queue.ordered g.L.Queue.bag g.L.Queue.room (those c.stay-of.result) (those c.change-of.result) c.args.labels.now c.add-some.new.q c.add-some-2.new.q c.add-some.ensures c.add-some-2.ensures)
-          (omega (arith, parts_length t x n (those c.ride-of.result) (those c.stay-of.result) (those c.change-of.result) c.ride-of.ensures c.stay-of.ensures c.change-of.ensures, length-append (those c.stay-of.result) (those c.change-of.result)))
+      ordered = c.add_some-2.ensures.in_order;
+      fits = fits_more label_ahead g.L.Queue.ordered g.L.Queue.bag g.L.Queue.room (length (leads_by t x n)) (length (those c.ride_of.result)) (those c.stay_of.result ++ those c.change_of.result) c.args.labels.now c.add_some-2.new.q
+          (grown-then label_ahead g.L.Queue.ordered g.L.Queue.bag g.L.Queue.room (those c.stay_of.result) (those c.change_of.result) c.args.labels.now c.add_some.new.q c.add_some-2.new.q c.add_some.ensures c.add_some-2.ensures)
+          (omega (arith, parts_length t x n (those c.ride_of.result) (those c.stay_of.result) (those c.change_of.result) c.ride_of.ensures c.stay_of.ensures c.change_of.ensures, length-append (those c.stay_of.result) (those c.change_of.result)))
           c.requires.fits;
     }
 
@@ -68,8 +68,8 @@ returns g c =
     let t = g.T.Means.meaning c.args.t.now in
     let x = seen c.args.x in
     let n = c.args.number.0 in
-    let e : those c.ride-of.result ++ (those c.stay-of.result ++ those c.change-of.result) ≡ map waiting (leads_by t x n) = cc (parts t x n, c.ride-of.ensures, c.stay-of.ensures, c.change-of.ensures) in
-    subst (λ (z : List LabelEntry). Grown label_ahead g.L.Queue.ordered g.L.Queue.bag g.L.Queue.room z c.args.labels.now c.add-some-3.new.q) e
-    (grown-then label_ahead g.L.Queue.ordered g.L.Queue.bag g.L.Queue.room (those c.ride-of.result) (those c.stay-of.result ++ those c.change-of.result) c.args.labels.now c.add-some-2.new.q c.add-some-3.new.q
-    (grown-then label_ahead g.L.Queue.ordered g.L.Queue.bag g.L.Queue.room (those c.stay-of.result) (those c.change-of.result) c.args.labels.now c.add-some.new.q c.add-some-2.new.q c.add-some.ensures c.add-some-2.ensures)
-    c.add-some-3.ensures)
+    let e : those c.ride_of.result ++ (those c.stay_of.result ++ those c.change_of.result) ≡ map waiting (leads_by t x n) = cc (parts t x n, c.ride_of.ensures, c.stay_of.ensures, c.change_of.ensures) in
+    subst (λ (z : List LabelEntry). Grown label_ahead g.L.Queue.ordered g.L.Queue.bag g.L.Queue.room z c.args.labels.now c.add_some-3.new.q) e
+    (grown-then label_ahead g.L.Queue.ordered g.L.Queue.bag g.L.Queue.room (those c.ride_of.result) (those c.stay_of.result ++ those c.change_of.result) c.args.labels.now c.add_some-2.new.q c.add_some-3.new.q
+    (grown-then label_ahead g.L.Queue.ordered g.L.Queue.bag g.L.Queue.room (those c.stay_of.result) (those c.change_of.result) c.args.labels.now c.add_some.new.q c.add_some-2.new.q c.add_some.ensures c.add_some-2.ensures)
+    c.add_some-3.ensures)

@@ -11,8 +11,8 @@ use Rattle.turns.proofs.Openings.{rank_below, has_room, opens-more, is_turn}
 use Rattle.search.proofs.Turning.{memory_fits}
 use Rattle.search.proofs.opening.open.Goals as goal
 
-pub open-row-requires : goal.open-row-requires
-open-row-requires g c =
+pub open_row-requires : goal.open_row-requires
+open_row-requires g c =
     let t = g.T.Means.meaning c.args.t.now in
     let law = g.T.Means.lawful c.args.t.now in
     let o = c.loop-first.invariant.4 in
@@ -30,8 +30,8 @@ add-requires g c =
       fits = has_room t law c.args.plan.source.0 c.args.memory.now c.loop-first.memory (g.B.Queue.bag c.loop-first.board) (g.B.Queue.bag c.take.new.self) (g.L.Queue.bag c.loop-first.labels) c.loop-first.rank c.in-Some.first c.loop-first.invariant.4 (c.in-Some.ensures.taken c.loop-first.invariant.0) (g.L.Queue.room c.loop-first.labels) (omega (arith, c.requires.room, c.loop-first.invariant.3));
     }
 
-pub overflow-add-rank : goal.overflow-add-rank
-overflow-add-rank g c =
+pub overflow_add-rank : goal.overflow_add-rank
+overflow_add-rank g c =
     let t = g.T.Means.meaning c.args.t.now in
     let law = g.T.Means.lawful c.args.t.now in
     omega (arith, c.loop-first.invariant.4.below, ranks-few t c.args.plan.source.0 law)
@@ -45,16 +45,16 @@ loop-first-preserved g c =
       c.take.ensures.room ∙ c.loop-first.invariant.2,
       c.add.ensures.same_room ∙ c.loop-first.invariant.3,
       opens-more t law c.args.plan.source.0 c.args.memory.now c.loop-first.memory (g.B.Queue.bag c.loop-first.board) (g.B.Queue.bag c.take.new.self) (g.L.Queue.bag c.loop-first.labels) c.loop-first.rank c.in-Some.first c.loop-first.invariant.4 (c.in-Some.ensures.taken c.loop-first.invariant.0)
-          c.open-row.new.memory (g.L.Queue.bag c.add.new.q)
-          (subst (λ (n : ℕ). RowOpened (n + 1) c.loop-first.rank (record { minute = c.in-Some.first.minute; origin = c.in-Some.first.connection.0 }) c.loop-first.memory c.open-row.new.memory) c.requires.planned.places c.open-row.ensures)
-          (subst (λ (n : ℕ). g.L.Queue.bag c.add.new.q ≡ put_all label_ahead (waiting (entry c.in-Some.first.minute c.loop-first.rank n nowhere) ∷ []) (g.L.Queue.bag c.loop-first.labels)) c.place-of.ensures c.add.ensures.holds),
+          c.open_row.new.memory (g.L.Queue.bag c.add.new.q)
+          (subst (λ (n : ℕ). RowOpened (n + 1) c.loop-first.rank (record { minute = c.in-Some.first.minute; origin = c.in-Some.first.connection.0 }) c.loop-first.memory c.open_row.new.memory) c.requires.planned.places c.open_row.ensures)
+          (subst (λ (n : ℕ). g.L.Queue.bag c.add.new.q ≡ put_all label_ahead (waiting (entry c.in-Some.first.minute c.loop-first.rank n nowhere) ∷ []) (g.L.Queue.bag c.loop-first.labels)) c.place_of.ensures c.add.ensures.holds),
     )
 
 pub returns : goal.returns
 returns g c =
     let t = g.T.Means.meaning c.args.t.now in
     let law = g.T.Means.lawful c.args.t.now in
-    let none = c.in-default.ensures.taken c.loop-first.invariant.0 in
+    let none = c.in_default.ensures.taken c.loop-first.invariant.0 in
     record {
       board = record { in_order = c.take.ensures.ordered c.loop-first.invariant.0; none = ap g.B.Queue.bag none.1 ∙ none.0; same_room = c.take.ensures.room ∙ c.loop-first.invariant.2 };
       labels = c.loop-first.invariant.1;

@@ -4,8 +4,8 @@ use Rattle.turns.proofs.Openings.{row_opened}
 use Rattle.search.proofs.Turning.{row_inside}
 use Rattle.search.proofs.rows.open_row.Goals as goal
 
-pub offset-bounds-memory-start : goal.offset-bounds-memory-start
-offset-bounds-memory-start c = omega (arith, (row_inside c.args.plan c.args.rank (length c.args.memory.now) c.requires.fits c.requires.rank).1)
+pub offset_bounds-memory-start : goal.offset_bounds-memory-start
+offset_bounds-memory-start c = omega (arith, (row_inside c.args.plan c.args.rank (length c.args.memory.now) c.requires.fits c.requires.rank).1)
 
 pub bounds-memory-start : goal.bounds-memory-start
 bounds-memory-start c = omega (arith, (row_inside c.args.plan c.args.rank (length c.args.memory.now) c.requires.fits c.requires.rank).0)

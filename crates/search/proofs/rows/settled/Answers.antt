@@ -7,8 +7,8 @@ use Rattle.turns.specs.Cells.{cell_at}
 use Rattle.turns.proofs.Cells.{inside}
 use Rattle.search.proofs.rows.settled.Goals as goal
 
-pub offset-bounds-memory-j : goal.offset-bounds-memory-j
-offset-bounds-memory-j c = omega (arith, inside c.args.plan.departures c.args.plan.places c.loop-j.j c.args.x.place.0 c.loop-j-test.true c.requires.place, c.requires.fits.small)
+pub offset_bounds-memory-j : goal.offset_bounds-memory-j
+offset_bounds-memory-j c = omega (arith, inside c.args.plan.departures c.args.plan.places c.loop-j.j c.args.x.place.0 c.loop-j-test.true c.requires.place, c.requires.fits.small)
 
 pub bounds-memory-j : goal.bounds-memory-j
 bounds-memory-j c = omega (arith, inside c.args.plan.departures c.args.plan.places c.loop-j.j c.args.x.place.0 c.loop-j-test.true c.requires.place, c.requires.fits.long)

@@ -40,8 +40,8 @@ lead-requires g c =
       fits = omega (arith, c.take.ensures.room, c.loop-x.invariant.1, settles.has_room);
     }
 
-pub overflow-add-written : goal.overflow-add-written
-overflow-add-written g c =
+pub overflow_add-written : goal.overflow_add-written
+overflow_add-written g c =
     let t = g.T.Means.meaning c.args.t.now in
     let law = g.T.Means.lawful c.args.t.now in
     omega (arith, count_small t law c.args.plan c.requires.planned c.loop-x.invariant.2)
@@ -86,7 +86,7 @@ loop-x-preserved g c =
 pub returns : goal.returns
 returns g c =
     let t = g.T.Means.meaning c.args.t.now in
-    let none = c.in-default.ensures.taken c.loop-x.invariant.0 in
+    let none = c.in_default.ensures.taken c.loop-x.invariant.0 in
     record {
       ended = subst (λ (q : List LabelEntry). Turn t c.args.plan.source.0 (g.L.Queue.room c.args.labels.now) c.args.memory.now c.loop-x.memory q c.loop-x.written) none.0 c.loop-x.invariant.2;
       labels = record { in_order = c.take.ensures.ordered c.loop-x.invariant.0; none = ap g.L.Queue.bag none.1 ∙ none.0; same_room = c.take.ensures.room ∙ c.loop-x.invariant.1 };

@@ -1,12 +1,11 @@
 -- Single bits of words.
-use Rattle.std.proofs.Common.{◌≡◌, ℕ, zero, suc, ◌+◌, ◌-◌, ◌*◌, ◌/◌, ◌%◌, ◌^◌, ◌<◌, ◌≤◌, min, max, ◌⊎◌, List, length, get_or, set, sym, refl, ap, ◌∙◌, subst, inl, inr, ⊎_elim, not-suc-le-zero, add-suc, one-mul, pow-suc, div-one, one-add, arith}
+use Rattle.std.proofs.Common.{◌≡◌, ℕ, zero, suc, ◌+◌, ◌-◌, ◌*◌, ◌/◌, ◌%◌, ◌^◌, ◌<◌, ◌≤◌, min, max, List, get_or, sym, refl, ap, ◌∙◌, subst, ⊎_elim, one-mul, pow-suc, div-one, one-add, arith}
 use Prim.Native.Nat.{differ}
 use native.Mathlib.Nat.{div-eq_of_lt}
 use lib.Bits.{bit_and, bit_or, bit_xor, or_step, and_step, xor_step, or_shr, and_shr, xor_shr}
 use lib.Count.{count_trailing_zeros, under}
-use Rattle.std.proofs.lemmas.Bool.{cases_eq, cases_lt, cases_order}
+use Rattle.std.proofs.lemmas.Bool.{cases_eq, cases_lt}
 use Rattle.std.proofs.lemmas.Nat.{shr-shr, shl-shr, shr_le, pow_pos, pow-add, pow_below, one_shl}
-use Rattle.std.proofs.lemmas.List.{get_or-set_same, get_or-set_other}
 use Rattle.buckets.specs.Bitmap.{bit, occupied, Clear, First}
 
 pub bit_low : (n k : ℕ) → bit n k < 2

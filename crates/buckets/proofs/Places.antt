@@ -1,15 +1,15 @@
 -- The cells of a bucket queue change hands: what stays in order.
-use Rattle.std.proofs.Common.{◌≡◌, ℕ, zero, suc, ◌+◌, ◌-◌, ◌/◌, ◌%◌, ◌<◌, ◌≤◌, Bool, true, false, cond, eqb, ltb, ◌⊎◌, List, [], ◌∷◌, ◌++◌, length, get_or, take, drop, set, replicate, sym, refl, ap, ◌∙◌, subst, inl, inr, ⊎_elim, append-nil, arith}
+use Rattle.std.proofs.Common.{◌≡◌, ℕ, zero, suc, ◌+◌, ◌-◌, ◌/◌, ◌%◌, ◌<◌, ◌≤◌, Bool, false, cond, ltb, ◌⊎◌, List, [], ◌∷◌, ◌++◌, length, get_or, take, drop, set, replicate, sym, refl, ap, ◌∙◌, subst, inl, inr, ⊎_elim, arith}
 use Rattle.std.specs.List.{AllByRecursion}
 use Rattle.std.proofs.lemmas.Bool.{both_ways, cases_eq, cases_lt, cond-true, cond-false, lt-ltb, le-ltb}
-use Rattle.std.proofs.lemmas.List.{length-set, length-append, get_or_append_left, get_or_at, get_or-set_same, get_or-set_other, get_or-replicate, length-replicate, map-set, nil_from_length}
+use Rattle.std.proofs.lemmas.List.{length-set, get_or_append_left, get_or_at, get_or-set_same, get_or-set_other, get_or-replicate, length-replicate, nil_from_length}
 use Rattle.std.proofs.ByRecursion.{All-weaker}
 use Rattle.buckets.specs.declared.chain.Cell.{Cell}
 use Rattle.queue.specs.Order.{Sound, inserted, Ascends}
 use Rattle.buckets.specs.Bitmap.{bit, occupied, Clear}
 use Rattle.buckets.specs.Chains.{In, Chain, nexts, entries, picked, Linked}
-use Rattle.buckets.specs.Pour.{sizes, total}
-use Rattle.buckets.specs.InBuckets.{Marked, Leads, Lodged, Fine, Reserved, in_cells}
+use Rattle.buckets.specs.Pour.{total}
+use Rattle.buckets.specs.InBuckets.{Lodged, Fine, Reserved, in_cells}
 use Rattle.buckets.proofs.Bits.{bit_low, bit_zero}
 use Rattle.queue.proofs.Bag.{behind, inserted-first, all_inserted, ascends_inserted}
 use Rattle.buckets.proofs.Walks.{chain_once, chain_frame, pick, picked_else, length-nexts, length-entries}

@@ -1,9 +1,9 @@
 -- Laws of `poured`, `total`, `sizes` and `walk`.
-use Rattle.std.proofs.Common.{◌≡◌, ℕ, zero, suc, ◌+◌, ◌<◌, ◌≤◌, Bool, true, false, cond, eqb, ltb, ◌⊎◌, List, [], ◌∷◌, ◌++◌, length, get_or, sym, refl, ap, ◌∙◌, subst, inl, inr, ⊎_elim, arith}
+use Rattle.std.proofs.Common.{◌≡◌, ℕ, zero, suc, ◌+◌, ◌<◌, ◌≤◌, Bool, cond, eqb, List, [], ◌∷◌, length, get_or, sym, refl, ap, ◌∙◌, ⊎_elim, arith}
 use Rattle.std.specs.List.{AllByRecursion}
 use Rattle.std.proofs.lemmas.Bool.{cases_eq, cases_Bool, cond-true, cond-false, lt-ltb, le-ltb, eq-eqb, ne_eqb}
 use Rattle.queue.specs.Order.{Sound, inserted, Ascends}
-use Rattle.buckets.specs.Chains.{In, Chain}
+use Rattle.buckets.specs.Chains.{Chain}
 use Rattle.buckets.specs.Pour.{walk, sizes, poured, total}
 use Rattle.queue.proofs.Bag.{inserted_past, inserted_here, inserted_comm, all_inserted, length_inserted, ascends_inserted}
 

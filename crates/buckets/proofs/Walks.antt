@@ -1,7 +1,6 @@
 -- Chains of cells: what a walk and a splice keep.
-use Rattle.std.proofs.Common.{◌≡◌, ℕ, zero, suc, ◌+◌, ◌<◌, ◌≤◌, Bool, true, false, ◌⊎◌, List, [], ◌∷◌, ◌++◌, map, length, get_or, take, drop, set, MatchBool, sym, refl, ap, ◌∙◌, subst, inl, inr, ⊎_elim, append_assoc, le_of_suc-le-suc, not-suc-le-zero, arith}
+use Rattle.std.proofs.Common.{◌≡◌, ℕ, zero, suc, ◌+◌, ◌<◌, ◌≤◌, Bool, true, false, ◌⊎◌, List, [], ◌∷◌, ◌++◌, length, get_or, take, drop, set, MatchBool, sym, refl, ap, ◌∙◌, subst, inl, inr, ⊎_elim, append_assoc, le_of_suc-le-suc, not-suc-le-zero, arith}
 use Rattle.std.specs.List.{AllByRecursion}
-use Rattle.std.proofs.lemmas.Bool.{cases_eq, cases_lt}
 use Rattle.std.proofs.lemmas.List.{length-append, length-set, length-map, get_or-set_same, get_or-set_other, map-set, drop_more, get_or-map}
 use Rattle.std.proofs.ByRecursion.{All-append}
 use Rattle.buckets.specs.declared.chain.Cell.{Cell}

@@ -1,5 +1,5 @@
 -- Bags that are made of several lists, and walks along chains.
-use Rattle.std.specs.Prelude.{◌≡◌, ℕ, zero, suc, ◌+◌, ◌<◌, ◌≤◌, Bool, true, false, cond, List, [], ◌∷◌, length, nat_lt, slice_index}
+use Rattle.std.specs.Prelude.{ℕ, zero, suc, ◌+◌, Bool, cond, List, [], ◌∷◌, length, nat_lt, slice_index}
 use Rattle.queue.specs.Order.{inserted}
 
 -- the cells of the chain from `at`, at most `fuel` of them

@@ -1,6 +1,6 @@
 -- The law of the three questions: from what they promise of rows as they stand, where the rows are those of the book's
 -- source and the memory lent is the front of one that has them.
-use Rattle.std.proofs.Common.{◌≡◌, ℕ, ◌*◌, ◌<◌, ◌≤◌, eqb, ltb, leb, ◌⊎◌, List, ◌++◌, length, drop, Some, None, Ok, Err, Option, Result, sym, refl, ap, subst, subst₂, inl, inr, ⊎_elim, arith, MatchOption}
+use Rattle.std.proofs.Common.{◌≡◌, ℕ, ◌*◌, ◌<◌, ◌≤◌, eqb, ltb, leb, List, ◌++◌, length, drop, Some, None, Ok, Err, Option, Result, sym, refl, ap, subst, subst₂, inl, inr, ⊎_elim, arith, MatchOption}
 use Rattle.std.proofs.lemmas.List.{length-append, length-drop}
 use Rattle.std.proofs.lemmas.Bool.{cases_lt, ltb-false}
 use Rattle.refusals.specs.declared.refusal.Refusal.{Refusal}

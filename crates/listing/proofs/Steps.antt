@@ -1,5 +1,5 @@
 -- One line more.
-use Rattle.std.proofs.Common.{◌≡◌, ℕ, ◌+◌, Bool, true, cond, List, [], ◌++◌, sym, ap, ◌∙◌, ap₂, add-one}
+use Rattle.std.proofs.Common.{◌≡◌, ℕ, ◌+◌, true, cond, List, [], ◌++◌, ap, ◌∙◌, ap₂, add-one}
 use Rattle.timetable.specs.Table.{Table, at}
 use Rattle.timetable.specs.declared.connection.Connection.{Connection}
 use Rattle.listing.specs.Text.{train_line, connection_line, begins_train, train_lines, lines_below}

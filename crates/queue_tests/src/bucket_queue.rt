@@ -1,6 +1,7 @@
 use crate::bodies::*;
 use crate::model::board;
 use buckets::{Buckets, Cell};
+use std::test::Fail;
 
 #[test]
 fn hub(rt: HostRuntime) -> Result<(), Fail> {

@@ -1,6 +1,7 @@
 use crate::bodies::*;
 use crate::model::board;
 use heap::Heap;
+use std::test::Fail;
 
 #[test]
 fn hub(rt: HostRuntime) -> Result<(), Fail> {

@@ -1,6 +1,5 @@
 -- `link` meets its contract.
-use Rattle.std.proofs.Common.{set, sym, ap, subst}
-use Rattle.buckets.specs.declared.chain.Cell.{Cell}
+use Rattle.std.proofs.Common.{set, sym, subst}
 use Rattle.buckets.specs.Chains.{Linked}
 use Rattle.buckets.proofs.Walks.{linked-first, linked-behind, next-at, entry_at}
 use Rattle.buckets.proofs.chain.link.Goals as goal

@@ -1,4 +1,4 @@
-use Rattle.std.proofs.Common.{◌≡◌, ◌+◌, ◌<◌, length, get_or, sym, ◌∙◌, subst, arith}
+use Rattle.std.proofs.Common.{◌+◌, get_or, sym, ◌∙◌, subst, arith}
 use Rattle.buckets.specs.Chains.{entries}
 use Rattle.buckets.proofs.Fronts.{Among, among-new, among-old}
 use Rattle.buckets.proofs.front.best.Goals as goal

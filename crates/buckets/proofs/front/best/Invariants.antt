@@ -1,4 +1,4 @@
-use Rattle.std.proofs.Common.{◌-◌, ◌≤◌, length}
+use Rattle.std.proofs.Common.{◌-◌, length}
 use Rattle.buckets.specs.InBuckets.{Marked}
 use Rattle.buckets.proofs.Fronts.{Among}
 use Rattle.buckets.proofs.front.best.Given as goal

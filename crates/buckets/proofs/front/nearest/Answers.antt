@@ -18,5 +18,5 @@ returns-in-Some-within g c = λ marked lodged.
     let low = c.args.low in
     let b = c.in-Some-within.b in
     second-round g.met.E.Entry.sound cs h.bits h.first low lodged b
-    (subst (λ m. Far g.E.Entry.minute_of cs h.bits h.first (m + 256) (low % 256) 256) c.from-bound.ensures (c.in-default.ensures marked (omega arith)))
+    (subst (λ m. Far g.E.Entry.minute_of cs h.bits h.first (m + 256) (low % 256) 256) c.from-bound.ensures (c.in_default.ensures marked (omega arith)))
     (subst (λ m. Near g.E.Entry.minute_of cs h.bits h.first (m + 256) 0 (low % 256) b) c.from-bound.ensures (c.in-Some-within.ensures marked))

@@ -9,4 +9,4 @@ returns g c =
     let t = g.T.Means.meaning c.args.t.now in
     let e₁ = ap₂ (λ x y. counts_text x y c.trains.result c.connections.result) c.period.ensures c.stations.ensures in
     let e₂ = ap₂ (λ x y. counts_text t.period (stations t) x y) c.trains.ensures c.connections.ensures in
-    IfOk-weaker c.counts-text.result _ _ (λ s e. e ∙ (e₁ ∙ e₂)) c.counts-text.ensures
+    IfOk-weaker c.counts_text.result _ _ (λ s e. e ∙ (e₁ ∙ e₂)) c.counts_text.ensures

@@ -4,4 +4,4 @@ use Rattle.listing.specs.Text.{station_line}
 use Rattle.listing.proofs.lines.station_of.Goals as goal
 
 pub returns : goal.returns
-returns g c = IfOk-weaker c.station-text.result _ _ (λ s e. e ∙ ap (station_line c.args.station) c.transfer-at.ensures) c.station-text.ensures
+returns g c = IfOk-weaker c.station_text.result _ _ (λ s e. e ∙ ap (station_line c.args.station) c.transfer_at.ensures) c.station_text.ensures

@@ -1,5 +1,5 @@
 -- `put` meets its contract.
-use Rattle.std.proofs.Common.{◌≡◌, ◌<◌, ◌≤◌, length, sym, refl, ◌∙◌, arith}
+use Rattle.std.proofs.Common.{◌<◌, length, refl, ◌∙◌, arith}
 use Rattle.std.proofs.lemmas.Result.{err_from_is_err_and}
 use Rattle.buckets.proofs.Walks.{next_of}
 use Rattle.buckets.proofs.Places.{reserve_spare, reserve_fresh, full, not_full, held_long}
@@ -18,11 +18,11 @@ returns-then-back-room g c =
       placed = λ w. let r = reserve_spare o w _ next lt in (let low = not_full o r in let held = held_long o w in omega arith, c.place.ensures.held r);
     }
 
-pub returns-in-err-check-room : goal.returns-in-err-check-room
-returns-in-err-check-room g c =
+pub returns-in_err-check_room : goal.returns-in_err-check_room
+returns-in_err-check_room g c =
     let o = g.met.E.Entry.sound in
-    let told = c.in-err-check-room.ensures in
-    let p = err_from_is_err_and c.from-residual.result c.from-residual.ensures.1 in
+    let told = c.in_err-check_room.ensures in
+    let p = err_from_is_err_and c.from_residual.result c.from_residual.ensures.1 in
     record {
       room = refl;
       ordered = λ w. w;
@@ -32,7 +32,7 @@ returns-in-err-check-room g c =
 pub returns : goal.returns
 returns g c =
     let o = g.met.E.Entry.sound in
-    let lt = c.in-ok-check-room.ensures in
+    let lt = c.in_ok-check_room.ensures in
     record {
       room = c.place-2.ensures.room;
       ordered = λ w. c.place-2.ensures.ordered (reserve_fresh o w lt);

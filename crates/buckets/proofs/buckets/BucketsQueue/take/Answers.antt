@@ -11,10 +11,10 @@ use Rattle.buckets.proofs.Walks.{next_of, keep, length-entries}
 use Rattle.buckets.proofs.Places.{clear_held, head_cell, unlinked, unlinked-held, taken_out, released, released-held}
 use Rattle.buckets.proofs.buckets.BucketsQueue.take.Goals as goal
 
-pub returns-in-default : goal.returns-in-default
-returns-in-default g c =
+pub returns-in_default : goal.returns-in_default
+returns-in_default g c =
     let o = g.met.E.Entry.sound in
-    record { room = refl; ordered = λ w. w; taken = λ w. (clear_held o w (c.in-default.ensures w), refl); least = λ w. tt }
+    record { room = refl; ordered = λ w. w; taken = λ w. (clear_held o w (c.in_default.ensures w), refl); least = λ w. tt }
 
 pub returns : goal.returns
 returns g c =
@@ -52,8 +52,8 @@ returns g c =
       ordered = λ w.
           let bl : b < 256 = (c.in-Some.ensures w).known in
           let h = head_cell o w b i bl c.first-at.ensures lt in
-          subst (λ n. Fine ahead (Lodged minute_of n) 0 cs' bits' c.advance.new.self.first i q.fresh c.saturating-sub-self.result) (sym c.minute-self.ensures)
-          (subst (λ n. Fine ahead (Lodged minute_of (minute_of x)) 0 cs' bits' c.advance.new.self.first i q.fresh n) (sym c.saturating-sub-self.ensures)
+          subst (λ n. Fine ahead (Lodged minute_of n) 0 cs' bits' c.advance.new.self.first i q.fresh c.saturating_sub-self.result) (sym c.minute-self.ensures)
+          (subst (λ n. Fine ahead (Lodged minute_of (minute_of x)) 0 cs' bits' c.advance.new.self.first i q.fresh n) (sym c.saturating_sub-self.ensures)
           (subst (λ f. Fine ahead (Lodged minute_of (minute_of x)) 0 cs' bits' f i q.fresh (q.len - 1)) (sym told.first)
           (released o (taken_out o w bits' b i next h.0 bl h.1 nis le told.here told.others x xis (leads w)) cs' size eis nis')));
       taken = took;

@@ -8,10 +8,10 @@ use Rattle.planner.proofs.planner.Planner.cancel.Goals as goal
 pub returns : goal.returns
 returns g c =
     let p = c.args.self.now in
-    let q = c.end-search.new.self in
-    let same = c.end-search.ensures.notices in
-    let none = c.end-search.ensures.standing in
-    let h = c.in-ok-cancel.ensures.answer in
+    let q = c.end_search.new.self in
+    let same = c.end_search.ensures.notices in
+    let none = c.end_search.ensures.standing in
+    let h = c.in_ok-cancel.ensures.answer in
     let e : Entered p.notices.table.slots q.notices.table.slots c.args.train.0 Cancelled = subst (λ (ns : List Notice). Entered p.notices.table.slots ns c.args.train.0 Cancelled) (ap (λ n. n.table.slots) (sym same)) h.1 in
     record {
       below = ap (λ n. n.below) same ∙ c.cancel.ensures.below;

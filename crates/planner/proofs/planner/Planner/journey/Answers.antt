@@ -7,13 +7,13 @@ use Rattle.answers.specs.Promises.{Journeyed}
 use Rattle.law.proofs.Telling.{journey-line, journey_none, by_some, by_none}
 use Rattle.planner.proofs.planner.Planner.journey.Goals as goal
 
-pub returns-in-err-standing : goal.returns-in-err-standing
-returns-in-err-standing g c =
+pub returns-in_err-standing : goal.returns-in_err-standing
+returns-in_err-standing g c =
     let p = c.args.self.now in
     let t = g.T.Means.meaning p.notices.below in
-    let r = c.from-residual.result in
-    let h = c.in-err-standing.ensures in
-    let e = err_from_is_err_and r c.from-residual.ensures.1 in
+    let r = c.from_residual.result in
+    let h = c.in_err-standing.ensures in
+    let e = err_from_is_err_and r c.from_residual.ensures.1 in
     let err : r ≡ Err NoSearch = e.1 ∙ ap Err (e.2 ∙ h.1) in
     record {
       answer = by_none p.standing _ (λ x. Journeyed (noticed t (found p.notices.table.slots)) x.source.0 x.rows c.args.memory.now c.args.target.0 c.args.minute c.args.out.now (r) c.args.out.now) h.0 (err, refl);
@@ -24,8 +24,8 @@ pub returns : goal.returns
 returns g c =
     let p = c.args.self.now in
     let t = g.T.Means.meaning p.notices.below in
-    let is = c.in-ok-standing.ensures in
+    let is = c.in_ok-standing.ensures in
     record {
-      answer = by_some p.standing _ (λ x. Journeyed (noticed t (found p.notices.table.slots)) x.source.0 x.rows c.args.memory.now c.args.target.0 c.args.minute c.args.out.now c.journey.result c.journey.new.out) c.in-ok-standing.standing is c.journey.ensures.answer;
-      law = λ b rest a. journey-line t b c.args.memory.now rest p.notices.table.slots p.standing a c.args.target.0 c.in-ok-standing.standing is c.args.minute c.args.out.now c.journey.new.out c.journey.result c.journey.ensures.answer c.journey.ensures.searched;
+      answer = by_some p.standing _ (λ x. Journeyed (noticed t (found p.notices.table.slots)) x.source.0 x.rows c.args.memory.now c.args.target.0 c.args.minute c.args.out.now c.journey.result c.journey.new.out) c.in_ok-standing.standing is c.journey.ensures.answer;
+      law = λ b rest a. journey-line t b c.args.memory.now rest p.notices.table.slots p.standing a c.args.target.0 c.in_ok-standing.standing is c.args.minute c.args.out.now c.journey.new.out c.journey.result c.journey.ensures.answer c.journey.ensures.searched;
     }

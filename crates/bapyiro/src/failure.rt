@@ -1,7 +1,7 @@
 //! Why a command was not carried out, in one line.
 
 use refusals::Refusal;
-use std::alloc::AllocError;
+use std::alloc::{AllocError, AllocFailed};
 use std::{fmt, io};
 
 #[derive(Drop)]
@@ -37,6 +37,12 @@ impl fmt::Debug for Failure {
 
 impl From<AllocError> for Failure {
     fn from(_error: AllocError) -> Failure {
+        Failure::Memory
+    }
+}
+
+impl<T: Drop> From<AllocFailed<T>> for Failure {
+    fn from(_error: AllocFailed<T>) -> Failure {
         Failure::Memory
     }
 }

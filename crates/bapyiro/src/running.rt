@@ -82,7 +82,7 @@ fn starting<T: Timetable>(t: &T, station: Station) -> usize {
     count
 }
 
-fn needs<T: Timetable>(t: &T, script: &[Entry]) -> Needs {
+fn needs_of<T: Timetable>(t: &T, script: &[Entry]) -> Needs {
     let mut by_heaps = 0;
     let mut by_buckets = 0;
     for entry in script {
@@ -189,12 +189,12 @@ fn carry<T: Timetable + Drop>(
 }
 
 /// Carries a script out over a timetable, on a fresh planner.
-fn carried<T: Timetable + Drop>(
+fn carried_out<T: Timetable + Drop>(
     heap: Global,
     t: T,
     script: &[Entry],
 ) -> Result<Carried, AllocError> {
-    let needs = needs(&t, script);
+    let needs = needs_of(&t, script);
     let orders = orders(heap, script, needs)?;
     let room = match orders.last() {
         Some(order) => order.to,
@@ -228,7 +228,7 @@ fn over(heap: Global, path: &str, bytes: &[u8], script: &[Entry]) -> Result<Carr
     if let Err(refusal) = image.open(bytes) {
         return Err(refused(heap, path, refusal));
     }
-    Ok(carried(heap, image, script)?)
+    Ok(carried_out(heap, image, script)?)
 }
 
 /// Carries a script out over an image, and prints an answer for each call.

@@ -24,6 +24,7 @@ fn check(bytes: &[u8]) -> Result<(), Refusal>
 
 impl<'a> Image<'a> {
     /// Reads the bytes from now on, if nothing is wrong with them.
+    #[tactic(auto, using(crate::proofs::Sound::lawful))]
     fn fill(&mut self, bytes: &'a [u8]) -> Result<(), Refusal>
         ensures { MatchResult result (λ _. opened bytes.now ≡ Ok (means self.new)) (λ e. (opened bytes.now ≡ Err e) × (self.new ≡ self.old)) }
     {

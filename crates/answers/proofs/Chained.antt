@@ -122,25 +122,25 @@ module _ (t : Table) (law : Lawful t) (s : ℕ) (memory : List Label) (rows : Ro
   module _ (l : List Entry) (x : SettledExactly t s l) (small : Small t s l []) where
     -- what is settled is what the row says
     says : (e : Entry) → Mem e l → e ≡ label_at t memory e.rank e.place
-    says e m = by-entry (rows.entries e.rank e.place (small.settled e m).1 (small.settled e m).2)
+    says e m = by_entry (rows.entries e.rank e.place (small.settled e m).1 (small.settled e m).2)
       where
-        by-entry : IsEntry t s e.rank e.place (entry t memory e.rank e.place) → e ≡ label_at t memory e.rank e.place
-        by-entry (inl h) = small.once e (label_at t memory e.rank e.place) m ((x (label_at t memory e.rank e.place)).1 h) refl refl
-        by-entry (inr h) = absurd (h.1 e.minute ((x e).0 m).0)
+        by_entry : IsEntry t s e.rank e.place (entry t memory e.rank e.place) → e ≡ label_at t memory e.rank e.place
+        by_entry (inl h) = small.once e (label_at t memory e.rank e.place) m ((x (label_at t memory e.rank e.place)).1 h) refl refl
+        by_entry (inr h) = absurd (h.1 e.minute ((x e).0 m).0)
 
     settled : (i p : ℕ) → i < ranks t s → p < places t → Reached t memory p i → Mem (label_at t memory i p) l
-    settled i p h k r = by-entry (rows.entries i p h k)
+    settled i p h k r = by_entry (rows.entries i p h k)
       where
-        by-entry : IsEntry t s i p (entry t memory i p) → Mem (label_at t memory i p) l
-        by-entry (inl q) = (x (label_at t memory i p)).1 q
-        by-entry (inr q) = absurd (r (ap (λ (z : Label). z.minute) q.0))
+        by_entry : IsEntry t s i p (entry t memory i p) → Mem (label_at t memory i p) l
+        by_entry (inl q) = (x (label_at t memory i p)).1 q
+        by_entry (inr q) = absurd (r (ap (λ (z : Label). z.minute) q.0))
 
-    first-settled : (e : Entry) (es : List Entry) → Chain t s l e es → Mem e l
-    first-settled e es (from _ m f o) = m
-    first-settled e es (go_back _ g gs m r p d w c) = m
+    first_settled : (e : Entry) (es : List Entry) → Chain t s l e es → Mem e l
+    first_settled e es (from _ m f o) = m
+    first_settled e es (go_back _ g gs m r p d w c) = m
 
-    given-at : {q q' m m' p n n' : ℕ} → q ≡ q' → m ≡ m' → n ≡ n' → Gives t q m p n → Gives t q' m' p n'
-    given-at a b c g = rw (← a, ← b, ← c) g
+    given_at : {q q' m m' p n n' : ℕ} → q ≡ q' → m ≡ m' → n ≡ n' → Gives t q m p n → Gives t q' m' p n'
+    given_at a b c g = rw (← a, ← b, ← c) g
 
     chained : (e : Entry) (es : List Entry) → Chain t s l e es → RowChain t memory e.rank e.place es
     chained e es (from _ m f o) =
@@ -153,12 +153,12 @@ module _ (t : Table) (law : Lawful t) (s : ℕ) (memory : List Label) (rows : Ro
         (sym (ap (λ (z : Entry). z.minute) y) ∙ f.departure ∙ ap (λ (z : Label). z.minute) (sym h)))
     chained e es (go_back _ g gs m r p d w c) =
         let y = says e m in
-        let z = says g (first-settled g gs c) in
+        let z = says g (first_settled g gs c) in
         let o : g.place ≡ (entry t memory e.rank e.place).origin = p ∙ ap (λ (q : Entry). q.origin) y in
         let n : g.minute ≡ (entry t memory e.rank (entry t memory e.rank e.place).origin).minute =
         ap (λ (q : Entry). q.minute) z ∙ ap (λ (i : ℕ). (entry t memory i g.place).minute) r ∙ ap (λ (q : ℕ). (entry t memory e.rank q).minute) o in
         subst (λ (q : Entry). RowChain t memory e.rank e.place (q ∷ gs)) (sym y)
-        (back e.place (given-at o n (ap (λ (q : Entry). q.minute) y) w)
+        (back e.place (given_at o n (ap (λ (q : Entry). q.minute) y) w)
         (subst (λ (q : ℕ). RowChain t memory e.rank q gs) o (subst (λ (i : ℕ). RowChain t memory i g.place gs) r (chained g gs c))))
 
   -- what row i tells of place p
@@ -178,12 +178,12 @@ module _ (t : Table) (law : Lawful t) (s : ℕ) (memory : List Label) (rows : Ro
 
   -- of a station, an itinerary with its legs
   pub told_legged : (i v : ℕ) → i < ranks t s → v < stations t → (w : RowTold i v) → Legged t s v (pos (head t memory i).minute) (pos (entry t memory i v).minute) (legs_of t w.entries)
-  told_legged i v h k w = by-case w.tells.comes
+  told_legged i v h k w = by_case w.tells.comes
     where
-      by-case : ((v ≡ (at t (last w.tells.first w.tells.rest).connection).end.0) × (arrival t (last w.tells.first w.tells.rest) ≡ pos (entry t memory i v).minute))
+      by_case : ((v ≡ (at t (last w.tells.first w.tells.rest).connection).end.0) × (arrival t (last w.tells.first w.tells.rest) ≡ pos (entry t memory i v).minute))
           ⊎ ((v ≡ connection_place t (last w.tells.first w.tells.rest).connection) × ((last w.tells.first w.tells.rest).moment ≡ pos (entry t memory i v).minute))
           → Legged t s v (pos (head t memory i).minute) (pos (entry t memory i v).minute) (legs_of t w.entries)
-      by-case (inl c) = record {
+      by_case (inl c) = record {
         travels = record {
           first = w.tells.first;
           rest = w.tells.rest;
@@ -195,7 +195,7 @@ module _ (t : Table) (law : Lawful t) (s : ℕ) (memory : List Label) (rows : Ro
         };
         legs = w.legs;
       }
-      by-case (inr c) = absurd (omega (arith, c.0))
+      by_case (inr c) = absurd (omega (arith, c.0))
 
   -- the legs of a row's chain, moved on, are those of an itinerary
   pub chain_legged : (i v k : ℕ) → i < ranks t s → v < stations t → Reached t memory v i → (es : List Entry) → RowChain t memory i v es → Legged t s v (pos ((head t memory i).minute + k * t.period)) (pos ((entry t memory i v).minute + k * t.period)) (map (leg_later (k * t.period)) (legs_of t es))

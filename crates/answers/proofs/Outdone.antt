@@ -90,7 +90,7 @@ module _ (t : Table) (law : Lawful t) (m : ℕ) (memory : List Label) (v : ℕ) 
 
   top_of : (d a n i : ℕ) → i < n → dep i ≡ d → arr i ≡ a → Top d a n
   top_of d a zero i h p q = absurd (omega arith)
-  top_of d a (suc n) i h p q = by-case (λ l. top_of d a n i l p q) (cases_eq (dep n) d) (cases_eq (arr n) a)
+  top_of d a (suc n) i h p q = by_case (λ l. top_of d a n i l p q) (cases_eq (dep n) d) (cases_eq (arr n) a)
     where
       here : dep n ≡ d → arr n ≡ a → Top d a (suc n)
       here x y = record { at = n; at_below = omega arith; departs = x; arrives = y; top = λ j k l _ _. omega arith }
@@ -107,10 +107,10 @@ module _ (t : Table) (law : Lawful t) (m : ℕ) (memory : List Label) (v : ℕ) 
             top = λ j k l y z. ⊎_elim (λ e. ne (ap dep (sym e) ∙ y) (ap arr (sym e) ∙ z)) (λ e. x.top j k (omega arith) y z) (cases_eq j n);
           }
 
-      by-case : (i < n → Top d a n) → (dep n ≡ d) ⊎ (dep n ≡ d → ⊥) → (arr n ≡ a) ⊎ (arr n ≡ a → ⊥) → Top d a (suc n)
-      by-case go (inl x) (inl y) = here x y
-      by-case go (inl x) (inr y) = lower go (λ _ z. y z)
-      by-case go (inr x) _ = lower go (λ z _. x z)
+      by_case : (i < n → Top d a n) → (dep n ≡ d) ⊎ (dep n ≡ d → ⊥) → (arr n ≡ a) ⊎ (arr n ≡ a → ⊥) → Top d a (suc n)
+      by_case go (inl x) (inl y) = here x y
+      by_case go (inl x) (inr y) = lower go (λ _ z. y z)
+      by_case go (inr x) _ = lower go (λ z _. x z)
 
   -- an unbeaten pair is that of a chosen row
   pub record From (d a : ℕ) : Type 0 where
@@ -121,7 +121,7 @@ module _ (t : Table) (law : Lawful t) (m : ℕ) (memory : List Label) (v : ℕ) 
     pub arrives : a ≡ arr row + periods * t.period
 
   pub from : (d a : ℕ) → RowUnbeaten t m memory v d a → From d a
-  from d a u = by-top (top_of (dep u.pair.row) (arr u.pair.row) m u.pair.row u.pair.there refl refl)
+  from d a u = by_top (top_of (dep u.pair.row) (arr u.pair.row) m u.pair.row u.pair.there refl refl)
     where
       k : ℕ
       k = u.pair.periods
@@ -129,8 +129,8 @@ module _ (t : Table) (law : Lawful t) (m : ℕ) (memory : List Label) (v : ℕ) 
       has : RowHas t memory v u.pair.row u.pair.periods d a
       has = u.pair.has
 
-      by-top : Top (dep u.pair.row) (arr u.pair.row) m → From d a
-      by-top x = record {
+      by_top : Top (dep u.pair.row) (arr u.pair.row) m → From d a
+      by_top x = record {
         row = x.at;
         periods = u.pair.periods;
         chosen = record { there = x.at_below; comes = comes'; alone = alone' };
@@ -146,42 +146,42 @@ module _ (t : Table) (law : Lawful t) (m : ℕ) (memory : List Label) (v : ℕ) 
 
           alone' : (j : ℕ) → j < m → Comes w memory j → Yields w memory x.at j
           alone' j h r = record {
-            later = ⊎_elim (λ z. z) (λ z. absurd (too-late z)) (cases_lt (arr x.at) (arr j + t.period));
-            higher = λ l. ⊎_elim (λ z. z) (λ z. absurd (too-high l z)) (cases_lt (arr x.at) (arr j));
-            same = λ e. ⊎_elim (λ z. absurd (too-soon e z)) (λ z. z) (cases_lt (arr j) (arr x.at));
+            later = ⊎_elim (λ z. z) (λ z. absurd (too_late z)) (cases_lt (arr x.at) (arr j + t.period));
+            higher = λ l. ⊎_elim (λ z. z) (λ z. absurd (too_high l z)) (cases_lt (arr x.at) (arr j));
+            same = λ e. ⊎_elim (λ z. absurd (too_soon e z)) (λ z. z) (cases_lt (arr j) (arr x.at));
           }
             where
               n : ℕ
               n = u.pair.periods
 
-              base-d : d ≡ dep x.at + u.pair.periods * t.period
-              base-d = has.departs ∙ ap (λ (y : ℕ). y + u.pair.periods * t.period) (sym x.departs)
+              base_d : d ≡ dep x.at + u.pair.periods * t.period
+              base_d = has.departs ∙ ap (λ (y : ℕ). y + u.pair.periods * t.period) (sym x.departs)
 
-              base-a : a ≡ arr x.at + u.pair.periods * t.period
-              base-a = has.arrives ∙ ap (λ (y : ℕ). y + u.pair.periods * t.period) (sym x.arrives)
+              base_a : a ≡ arr x.at + u.pair.periods * t.period
+              base_a = has.arrives ∙ ap (λ (y : ℕ). y + u.pair.periods * t.period) (sym x.arrives)
 
-              too-late : arr j + t.period ≤ arr x.at → ⊥
-              too-late z =
-                  let q = u.unbeaten (dep j + (u.pair.periods + 1) * t.period) (arr j + (u.pair.periods + 1) * t.period) (pair_of j (u.pair.periods + 1) h r) (omega (arith, base-d, below x.at x.at_below)) (omega (arith, base-a)) in
-                  omega (arith, q.0, base-d, below x.at x.at_below)
+              too_late : arr j + t.period ≤ arr x.at → ⊥
+              too_late z =
+                  let q = u.unbeaten (dep j + (u.pair.periods + 1) * t.period) (arr j + (u.pair.periods + 1) * t.period) (pair_of j (u.pair.periods + 1) h r) (omega (arith, base_d, below x.at x.at_below)) (omega (arith, base_a)) in
+                  omega (arith, q.0, base_d, below x.at x.at_below)
 
-              too-high : x.at < j → arr j ≤ arr x.at → ⊥
-              too-high l z =
+              too_high : x.at < j → arr j ≤ arr x.at → ⊥
+              too_high l z =
                   let up = rises x.at j (omega arith) h in
-                  let q = u.unbeaten (dep j + u.pair.periods * t.period) (arr j + u.pair.periods * t.period) (pair_of j u.pair.periods h r) (omega (arith, base-d)) (omega (arith, base-a)) in
+                  let q = u.unbeaten (dep j + u.pair.periods * t.period) (arr j + u.pair.periods * t.period) (pair_of j u.pair.periods h r) (omega (arith, base_d)) (omega (arith, base_a)) in
                   x.top j l h (omega (arith, q.0, has.departs)) (omega (arith, q.1, has.arrives))
 
-              too-soon : dep j ≡ dep x.at → arr j < arr x.at → ⊥
-              too-soon e z =
-                  let q = u.unbeaten (dep j + u.pair.periods * t.period) (arr j + u.pair.periods * t.period) (pair_of j u.pair.periods h r) (omega (arith, base-d)) (omega (arith, base-a)) in
-                  omega (arith, q.1, base-a)
+              too_soon : dep j ≡ dep x.at → arr j < arr x.at → ⊥
+              too_soon e z =
+                  let q = u.unbeaten (dep j + u.pair.periods * t.period) (arr j + u.pair.periods * t.period) (pair_of j u.pair.periods h r) (omega (arith, base_d)) (omega (arith, base_a)) in
+                  omega (arith, q.1, base_a)
 
   -- ---- the first pair at or after a minute
 
   module _ (n i : ℕ) (c : ChosenRow w memory i) where
     -- in this period
-    pub found-now : n ≤ dep i → ((j : ℕ) → j < i → ChosenRow w memory j → n ≤ dep j → ⊥) → JourneyRow t m memory v n i 0
-    found-now h f = record {
+    pub found_now : n ≤ dep i → ((j : ℕ) → j < i → ChosenRow w memory j → n ≤ dep j → ⊥) → JourneyRow t m memory v n i 0
+    found_now h f = record {
       departure = dep i + 0 * t.period;
       arrival = arr i + 0 * t.period;
       arrive = record { unbeaten = unbeaten i c 0; late_enough = omega arith; first = λ d' a' u l. first' d' (from d' a' u) l };
@@ -226,7 +226,7 @@ module _ (t : Table) (law : Lawful t) (m : ℕ) (memory : List Label) (v : ℕ) 
 
   best : (n : ℕ) → Silent n ⊎ Best n
   best zero = inl (λ j h. absurd (omega arith))
-  best (suc n) = by-case (cases_eq (arr n) 4294967295) (best n)
+  best (suc n) = by_case (cases_eq (arr n) 4294967295) (best n)
     where
       first_one : Comes w memory n → Silent n → Best (suc n)
       first_one c s = record {
@@ -247,17 +247,17 @@ module _ (t : Table) (law : Lawful t) (m : ℕ) (memory : List Label) (v : ℕ) 
       }
 
       weigh : Comes w memory n → Best n → Best (suc n)
-      weigh c b = by-arrival (cases_lt (arr b.at) (arr n))
+      weigh c b = by_arrival (cases_lt (arr b.at) (arr n))
         where
-          by-arrival : (arr b.at < arr n) ⊎ (arr n ≤ arr b.at) → Best (suc n)
-          by-arrival (inl h) = record {
+          by_arrival : (arr b.at < arr n) ⊎ (arr n ≤ arr b.at) → Best (suc n)
+          by_arrival (inl h) = record {
             at = b.at;
             at_below = omega (arith, b.at_below);
             comes = b.comes;
             least = λ j l r. ⊎_elim (λ q. omega (arith, ap arr q)) (λ q. b.least j (omega arith) r) (cases_eq j n);
             last = λ j l k r. ⊎_elim (λ q. omega (arith, ap arr q)) (λ q. b.last j l (omega arith) r) (cases_eq j n);
           }
-          by-arrival (inr h) = record {
+          by_arrival (inr h) = record {
             at = n;
             at_below = omega arith;
             comes = c;
@@ -265,11 +265,11 @@ module _ (t : Table) (law : Lawful t) (m : ℕ) (memory : List Label) (v : ℕ) 
             last = λ j l k r. absurd (omega arith);
           }
 
-      by-case : (arr n ≡ 4294967295) ⊎ (arr n ≡ 4294967295 → ⊥) → Silent n ⊎ Best n → Silent (suc n) ⊎ Best (suc n)
-      by-case (inl e) (inl s) = inl (λ j h. ⊎_elim (λ q. ap arr q ∙ e) (λ q. s j (omega arith)) (cases_eq j n))
-      by-case (inl e) (inr b) = inr (keep e b)
-      by-case (inr c) (inl s) = inr (first_one c s)
-      by-case (inr c) (inr b) = inr (weigh c b)
+      by_case : (arr n ≡ 4294967295) ⊎ (arr n ≡ 4294967295 → ⊥) → Silent n ⊎ Best n → Silent (suc n) ⊎ Best (suc n)
+      by_case (inl e) (inl s) = inl (λ j h. ⊎_elim (λ q. ap arr q ∙ e) (λ q. s j (omega arith)) (cases_eq j n))
+      by_case (inl e) (inr b) = inr (keep e b)
+      by_case (inr c) (inl s) = inr (first_one c s)
+      by_case (inr c) (inr b) = inr (weigh c b)
 
   best_chosen : Best m → (i : ℕ) × ChosenRow w memory i
   best_chosen b = (

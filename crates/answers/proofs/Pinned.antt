@@ -41,12 +41,12 @@ module _ (t : Table) (m : ℕ) (memory : List Label) (v : ℕ) where
       on (j, g, e) = by_order (cases_order j k)
         where
           back : k < length qs → (j : ℕ) × (j < length ps) × (pair_at ps j ≡ pair_at qs k) → (pair_at ps k).departure ≤ (pair_at qs k).departure
-          back l (i, f, d) = by-back (cases_order i k)
+          back l (i, f, d) = by_back (cases_order i k)
             where
-              by-back : (i ≡ k) ⊎ ((i < k) ⊎ (k < i)) → (pair_at ps k).departure ≤ (pair_at qs k).departure
-              by-back (inl x) = omega (arith, departs _ _ d, ap (λ (z : ℕ). (pair_at ps z).departure) x)
-              by-back (inr (inl x)) = absurd (omega (arith, departs _ _ d, departs _ _ (before i x f).1, q.rising i k x l))
-              by-back (inr (inr x)) = omega (arith, departs _ _ d, p.rising k i x f)
+              by_back : (i ≡ k) ⊎ ((i < k) ⊎ (k < i)) → (pair_at ps k).departure ≤ (pair_at qs k).departure
+              by_back (inl x) = omega (arith, departs _ _ d, ap (λ (z : ℕ). (pair_at ps z).departure) x)
+              by_back (inr (inl x)) = absurd (omega (arith, departs _ _ d, departs _ _ (before i x f).1, q.rising i k x l))
+              by_back (inr (inr x)) = omega (arith, departs _ _ d, p.rising k i x f)
 
           by_order : (j ≡ k) ⊎ ((j < k) ⊎ (k < j)) → (k < length qs) × (pair_at ps k ≡ pair_at qs k)
           by_order (inl x) = (omega arith, sym e ∙ ap (pair_at qs) x)

@@ -16,7 +16,7 @@ use Rattle.answers.specs.Chains.{JourneyRow}
 use Rattle.answers.specs.Promises.{rows_refusal, minute_refusal, target_refusal, asked, asked_profile, Arrived, Profiled, Journeyed}
 use Rattle.answers.specs.Subject.{ArriveTold, ProfileTold, JourneyTold}
 use Rattle.answers.specs.Rowwise.{view_of, Within, FirstPair, now, next}
-use Rattle.answers.proofs.Outdone.{found-now, found-next}
+use Rattle.answers.proofs.Outdone.{found_now, found-next}
 use Rattle.answers.proofs.Telling.{arrive_told, profile_told}
 use Rattle.answers.proofs.ChainTold.{journey_told}
 
@@ -52,7 +52,7 @@ module _ (t : Table) (law : Lawful t) (s m v len : ℕ) (few : m < 4294967296) w
 module _ (t : Table) (law : Lawful t) (m : ℕ) (memory : List Label) (v : ℕ) (own : AllOwn t m memory v) where
   -- the row that was found is that of arrive's pair
   pub journey_row : (n i k : ℕ) → n < t.period → FirstPair (view_of t m v) memory n i k → JourneyRow t m memory v n i k
-  journey_row n i k h (now f e) = subst (JourneyRow t m memory v n i) (sym e) (found-now t law m memory v own n i f.chosen f.late_enough f.first)
+  journey_row n i k h (now f e) = subst (JourneyRow t m memory v n i) (sym e) (found_now t law m memory v own n i f.chosen f.late_enough f.first)
   journey_row n i k h (next none f e) = subst (JourneyRow t m memory v n i) (sym e) (found-next t law m memory v own n i f.chosen h none (λ j l c. f.first j l c (omega arith)))
 
   pub near : (n i k : ℕ) → FirstPair (view_of t m v) memory n i k → k ≤ 1

@@ -148,13 +148,13 @@ module _ (t : Table) (law : Lawful t) (s v : ℕ) (known : v < stations t) (memo
       (p.0, p.1, (unbeaten_both d p.0).1 (subst (Unbeaten t s v (pos d)) p.1 u))
 
   pub arrives : (n d a : ℕ) → IsArrive t (ranks t s) memory v n d a → Arrives t s v n d a
-  arrives n d a h = record { first = record { unbeaten = is; late_enough = after-n; first = first' }; none_sooner = first_unbeaten t law s v known (pos n) (pos d) (pos a) is after-n first' }
+  arrives n d a h = record { first = record { unbeaten = is; late_enough = after_n; first = first' }; none_sooner = first_unbeaten t law s v known (pos n) (pos d) (pos a) is after_n first' }
     where
       is : Unbeaten t s v (pos d) (pos a)
       is = (unbeaten_both d a).0 h.unbeaten
 
-      after-n : pos n ≤ℤ pos d
-      after-n = omega (arith, ints, h.late_enough)
+      after_n : pos n ≤ℤ pos d
+      after_n = omega (arith, ints, h.late_enough)
 
       first' : (x y : ℤ) → Unbeaten t s v x y → pos n ≤ℤ x → pos d ≤ℤ x
       first' x y u k = on (natural x n k)

@@ -63,8 +63,8 @@ module _ (t : Table) where
         on (inl h) = rw (lt-ltb p (stations t) h) (omega arith)
         on (inr h) = rw (le-ltb p (stations t) h) (taken-length b (p - stations t) n gs f)
 
-    entered-front : (gs hs : List Leg) → (b ≡ true → 1 ≤ length gs) → entered t b p n (gs ++ hs) ≡ entered t b p n gs ++ hs
-    entered-front gs hs f = on (cases_lt p (stations t))
+    entered_front : (gs hs : List Leg) → (b ≡ true → 1 ≤ length gs) → entered t b p n (gs ++ hs) ≡ entered t b p n gs ++ hs
+    entered_front gs hs f = on (cases_lt p (stations t))
       where
         on : (p < stations t) ⊎ (stations t ≤ p) → entered t b p n (gs ++ hs) ≡ entered t b p n gs ++ hs
         on (inl h) = rw (lt-ltb p (stations t) h) refl
@@ -78,8 +78,8 @@ module _ (t : Table) where
         on (inr h) = rw (le-ltb p (stations t) h) (sym (taken-later t m b (p - stations t) n gs))
 
     -- after a connection there is a leg
-    entered-some : (gs : List Leg) → (b ≡ true → 1 ≤ length gs) → leb (stations t) p ≡ true → 1 ≤ length (entered t b p n gs)
-    entered-some gs f l = on b (cases_lt p (stations t)) f
+    entered_some : (gs : List Leg) → (b ≡ true → 1 ≤ length gs) → leb (stations t) p ≡ true → 1 ≤ length (entered t b p n gs)
+    entered_some gs f l = on b (cases_lt p (stations t)) f
       where
         on : (b : Bool) → (p < stations t) ⊎ (stations t ≤ p) → (b ≡ true → 1 ≤ length gs) → 1 ≤ length (entered t b p n gs)
         on b (inl h) f = absurd (both_ways (leb (stations t) p) (lt-leb (stations t) p h) l)
@@ -129,66 +129,66 @@ module _ (t : Table) (law : Lawful t) (w : View) (memory : List Label) (i : ℕ)
     head_is = ap (λ (n : ℕ). get_or memory (i * n) blank) s.wide
 
     module _ (l : Label) (reads : l ≡ row_entry w memory i p) where
-      pub read-origin : (entry t memory i p).origin ≡ l.origin
-      read-origin = ap (λ (x : Label). x.origin) (sym (reads ∙ entry_is p))
+      pub read_origin : (entry t memory i p).origin ≡ l.origin
+      read_origin = ap (λ (x : Label). x.origin) (sym (reads ∙ entry_is p))
 
-      pub read-minute : (entry t memory i p).minute ≡ l.minute
-      read-minute = ap (λ (x : Label). x.minute) (sym (reads ∙ entry_is p))
+      pub read_minute : (entry t memory i p).minute ≡ l.minute
+      read_minute = ap (λ (x : Label). x.minute) (sym (reads ∙ entry_is p))
 
       module _ (h : Label) (heads : h ≡ row_head w memory i) (none : l.origin ≡ no_origin) where
-        pub step-first : p ≡ stations t + h.origin → l.minute ≡ h.minute → RowChain t memory i p (label_at t memory i p ∷ [])
-        step-first e m = ends p (read-origin ∙ none) (e ∙ ap (λ (x : Label). stations t + x.origin) (heads ∙ head_is)) (read-minute ∙ m ∙ ap (λ (x : Label). x.minute) (heads ∙ head_is))
+        pub step_first : p ≡ stations t + h.origin → l.minute ≡ h.minute → RowChain t memory i p (label_at t memory i p ∷ [])
+        step_first e m = ends p (read_origin ∙ none) (e ∙ ap (λ (x : Label). stations t + x.origin) (heads ∙ head_is)) (read_minute ∙ m ∙ ap (λ (x : Label). x.minute) (heads ∙ head_is))
 
-        pub step-not-first : (p ≡ stations t + h.origin → l.minute ≡ h.minute → ⊥) → (es : List Entry) → RowChain t memory i p es → ⊥
-        step-not-first f es c =
-            let y = chain_first t law memory i p es c (read-origin ∙ none) in
-            f (y.0 ∙ ap (λ (x : Label). stations t + x.origin) (sym (heads ∙ head_is))) (sym read-minute ∙ y.1 ∙ ap (λ (x : Label). x.minute) (sym (heads ∙ head_is)))
+        pub step_not_first : (p ≡ stations t + h.origin → l.minute ≡ h.minute → ⊥) → (es : List Entry) → RowChain t memory i p es → ⊥
+        step_not_first f es c =
+            let y = chain_first t law memory i p es c (read_origin ∙ none) in
+            f (y.0 ∙ ap (λ (x : Label). stations t + x.origin) (sym (heads ∙ head_is))) (sym read_minute ∙ y.1 ∙ ap (λ (x : Label). x.minute) (sym (heads ∙ head_is)))
 
       module _ (some : l.origin ≡ no_origin → ⊥) where
-        given-on : (es : List Entry) → RowChain t memory i p es → Gives t l.origin (entry t memory i l.origin).minute p l.minute
-        given-on es c = rw (← read-origin, ← read-minute) (chain_onward t memory i p es c (λ e. some (sym read-origin ∙ e))).0
+        given_on : (es : List Entry) → RowChain t memory i p es → Gives t l.origin (entry t memory i l.origin).minute p l.minute
+        given_on es c = rw (← read_origin, ← read_minute) (chain_onward t memory i p es c (λ e. some (sym read_origin ∙ e))).0
 
         pub step_past : w.width ≤ l.origin + 1 → (es : List Entry) → RowChain t memory i p es → ⊥
-        step_past h es c = omega (arith, s.wide, (gives_falls t law _ _ _ _ (given-on es c)).0)
+        step_past h es c = omega (arith, s.wide, (gives_falls t law _ _ _ _ (given_on es c)).0)
 
         module _ (k : Label) (before : k ≡ row_entry w memory i l.origin) where
           pub step_given : Gives t l.origin k.minute p l.minute → GivenFrom l.origin p
-          step_given g = rw (read-minute, ← (ap (λ (x : Label). x.minute) (before ∙ entry_is l.origin))) g
+          step_given g = rw (read_minute, ← (ap (λ (x : Label). x.minute) (before ∙ entry_is l.origin))) g
 
-          pub step-not-given : (Gives t l.origin k.minute p l.minute → ⊥) → (es : List Entry) → RowChain t memory i p es → ⊥
-          step-not-given f es c = f (rw (ap (λ (x : Label). x.minute) (before ∙ entry_is l.origin)) (given-on es c))
+          pub step_not_given : (Gives t l.origin k.minute p l.minute → ⊥) → (es : List Entry) → RowChain t memory i p es → ⊥
+          step_not_given f es c = f (rw (ap (λ (x : Label). x.minute) (before ∙ entry_is l.origin)) (given_on es c))
 
   module _ (v : ℕ) where
     -- ---- counting
 
-    pub count-start : Stands t w memory i v → Counting t w memory i v v false 0
-    count-start s = record { stands = s; ahead = λ es c. (es, c, omega arith); behind = λ all c. (all, c); few = omega (arith, depth_small v s) }
+    pub count_start : Stands t w memory i v → Counting t w memory i v v false 0
+    count_start s = record { stands = s; ahead = λ es c. (es, c, omega arith); behind = λ all c. (all, c); few = omega (arith, depth_small v s) }
 
     module _ (p : ℕ) (b : Bool) (k : ℕ) (x : Counting t w memory i v p b k) where
-      pub count-end : RowChain t memory i p (label_at t memory i p ∷ []) → (all : List Entry) × RowChain t memory i v all × (k + opened t b p ≡ length (legs_of t all))
-      count-end c =
+      pub count_end : RowChain t memory i p (label_at t memory i p ∷ []) → (all : List Entry) × RowChain t memory i v all × (k + opened t b p ≡ length (legs_of t all))
+      count_end c =
           let y = x.ahead (label_at t memory i p ∷ []) c in
           (y.0, y.1, omega (arith, y.2, count-entry t (label_at t memory i p) [] b, count_back_is t y.0))
 
-      pub count-broken : ((es : List Entry) → RowChain t memory i p es → ⊥) → (all : List Entry) → RowChain t memory i v all → ⊥
-      count-broken f all c = let y = x.behind all c in f y.0 y.1
+      pub count_broken : ((es : List Entry) → RowChain t memory i p es → ⊥) → (all : List Entry) → RowChain t memory i v all → ⊥
+      count_broken f all c = let y = x.behind all c in f y.0 y.1
 
-      from-origin : GivenFrom (entry t memory i p).origin p → ((entry t memory i p).origin ≡ no_origin → ⊥) → Counting t w memory i v (entry t memory i p).origin (leb (stations t) p) (k + opened t b p)
-      from-origin g n = record {
+      from_origin : GivenFrom (entry t memory i p).origin p → ((entry t memory i p).origin ≡ no_origin → ⊥) → Counting t w memory i v (entry t memory i p).origin (leb (stations t) p) (k + opened t b p)
+      from_origin g n = record {
         stands = step_stands _ p g x.stands;
         ahead = λ es c. (let y = x.ahead (label_at t memory i p ∷ es) (back p g c) in (y.0, y.1, omega (arith, y.2, count-entry t (label_at t memory i p) es b)));
         behind = λ all c. (let y = x.behind all c in let z = chain_onward t memory i p y.0 y.1 n in (z.1.0, z.1.1));
         few = omega (arith, x.few, step_falls _ p g, opened_few t b p);
       }
 
-      pub count-onward : (o s : ℕ) → (entry t memory i p).origin ≡ o → (o ≡ no_origin → ⊥) → GivenFrom o p → s ≡ stations t → (d : ℕ) → d ≡ opened t b p → Counting t w memory i v o (leb s p) (k + d)
-      count-onward o s e n g z d y = rw (z, y) (subst (λ (q : ℕ). (q ≡ no_origin → ⊥) → GivenFrom q p → Counting t w memory i v q (leb (stations t) p) (k + opened t b p)) e (λ n g. from-origin g n) n g)
+      pub count_onward : (o s : ℕ) → (entry t memory i p).origin ≡ o → (o ≡ no_origin → ⊥) → GivenFrom o p → s ≡ stations t → (d : ℕ) → d ≡ opened t b p → Counting t w memory i v o (leb s p) (k + d)
+      count_onward o s e n g z d y = rw (z, y) (subst (λ (q : ℕ). (q ≡ no_origin → ⊥) → GivenFrom q p → Counting t w memory i v q (leb (stations t) p) (k + opened t b p)) e (λ n g. from_origin g n) n g)
 
     -- ---- writing
 
     module _ (later k : ℕ) (out₀ : List Leg) where
-      pub write-start : Stands t w memory i v → (all : List Entry) → RowChain t memory i v all → k ≡ length (legs_of t all) → k ≤ length out₀ → Writing t w memory i v later k out₀ v false k out₀
-      write-start s all c e h = record {
+      pub write_start : Stands t w memory i v → (all : List Entry) → RowChain t memory i v all → k ≡ length (legs_of t all) → k ≤ length out₀ → Writing t w memory i v later k out₀ v false k out₀
+      write_start s all c e h = record {
         stands = s;
         entries = all;
         chain = c;
@@ -205,16 +205,16 @@ module _ (t : Table) (law : Lawful t) (w : View) (memory : List Label) (i : ℕ)
 
       module _ (p : ℕ) (b : Bool) (j : ℕ) (out : List Leg) (x : Writing t w memory i v later k out₀ p b j out) where
         module _ (fs : List Entry) (e : x.entries ≡ label_at t memory i p ∷ fs) where
-          rest-after : back_legs t fs (leb (stations t) p) (entered t b p (entry t memory i p).minute x.legs) ≡ legs_of t x.all
-          rest-after = sym (back_entry t (label_at t memory i p) fs b x.legs) ∙ ap (λ (z : List Entry). back_legs t z b x.legs) (sym e) ∙ x.rest
+          rest_after : back_legs t fs (leb (stations t) p) (entered t b p (entry t memory i p).minute x.legs) ≡ legs_of t x.all
+          rest_after = sym (back_entry t (label_at t memory i p) fs b x.legs) ∙ ap (λ (z : List Entry). back_legs t z b x.legs) (sym e) ∙ x.rest
 
           before : stations t ≤ p → b ≡ false → 1 ≤ j
           before h l =
-              let r = rw (l, le-ltb p (stations t) h, le-leb (stations t) p h) at rest-after in
+              let r = rw (l, le-ltb p (stations t) h, le-leb (stations t) p h) at rest_after in
               omega (arith, back_length_aboard t fs (leg_of t (p - stations t) (entry t memory i p).minute) x.legs, ap length r, x.left, x.all_legs)
 
-        pub write-room : Room t b p j out
-        write-room =
+        pub write_room : Room t b p j out
+        write_room =
             let y = chain_head p x.entries x.chain in
             record { inside = omega (arith, x.left, x.room); behind = λ l. omega (arith, x.some l, x.left, x.room); before = before y.0 y.1 }
 
@@ -222,23 +222,23 @@ module _ (t : Table) (law : Lawful t) (w : View) (memory : List Label) (i : ℕ)
         module _ (l : Label) (reads : l ≡ row_entry w memory i p) (j' : ℕ) (out' : List Leg) (y : TakenIn t b p (l.minute + later) j out j' out') (same : length out' ≡ length out) where
           held_after : drop j' out' ≡ map (leg_later later) (entered t b p (entry t memory i p).minute x.legs) ++ drop k out₀
           held_after =
-              y.held ∙ ap (λ (n : ℕ). entered t b p (n + later) (drop j out)) (sym (read-minute p x.stands l reads))
+              y.held ∙ ap (λ (n : ℕ). entered t b p (n + later) (drop j out)) (sym (read_minute p x.stands l reads))
               ∙ ap (λ (z : List Leg). entered t b p ((entry t memory i p).minute + later) z) x.held
-              ∙ entered-front t b p ((entry t memory i p).minute + later) (map (leg_later later) x.legs) (drop k out₀) (λ z. omega (arith, x.some z, length-map x.legs (leg_later later)))
+              ∙ entered_front t b p ((entry t memory i p).minute + later) (map (leg_later later) x.legs) (drop k out₀) (λ z. omega (arith, x.some z, length-map x.legs (leg_later later)))
               ∙ ap (λ (z : List Leg). z ++ drop k out₀) (entered-later t b p (entry t memory i p).minute later x.legs)
 
           left_after : j' + length (entered t b p (entry t memory i p).minute x.legs) ≡ k
           left_after = omega (arith, y.moved, x.left, entered-length t b p (entry t memory i p).minute x.legs x.some)
 
-          pub write-end : l.origin ≡ no_origin → (all : List Entry) × RowChain t memory i v all × (out' ≡ map (leg_later later) (legs_of t all) ++ drop k out₀)
-          write-end o =
-              let z = chain_first t law memory i p x.entries x.chain (read-origin p x.stands l reads ∙ o) in
-              let r : entered t b p (entry t memory i p).minute x.legs ≡ legs_of t x.all = rest-after [] z.2 in
+          pub write_end : l.origin ≡ no_origin → (all : List Entry) × RowChain t memory i v all × (out' ≡ map (leg_later later) (legs_of t all) ++ drop k out₀)
+          write_end o =
+              let z = chain_first t law memory i p x.entries x.chain (read_origin p x.stands l reads ∙ o) in
+              let r : entered t b p (entry t memory i p).minute x.legs ≡ legs_of t x.all = rest_after [] z.2 in
               let n : j' ≡ 0 = omega (arith, left_after, ap length r, x.all_legs) in
               (x.all, x.whole, ap (λ (m : ℕ). drop m out') (sym n) ∙ held_after ∙ ap (λ (gs : List Leg). map (leg_later later) gs ++ drop k out₀) r)
 
-          from-there : ((entry t memory i p).origin ≡ no_origin → ⊥) → (depth_at t memory i (entry t memory i p).origin < depth_at t memory i p) × Writing t w memory i v later k out₀ (entry t memory i p).origin (leb (stations t) p) j' out'
-          from-there n =
+          from_there : ((entry t memory i p).origin ≡ no_origin → ⊥) → (depth_at t memory i (entry t memory i p).origin < depth_at t memory i p) × Writing t w memory i v later k out₀ (entry t memory i p).origin (leb (stations t) p) j' out'
+          from_there n =
               let z = chain_onward t memory i p x.entries x.chain n in (
                 step_falls _ p z.0,
                 record {
@@ -249,13 +249,13 @@ module _ (t : Table) (law : Lawful t) (w : View) (memory : List Label) (i : ℕ)
                   whole = x.whole;
                   all_legs = x.all_legs;
                   legs = entered t b p (entry t memory i p).minute x.legs;
-                  rest = rest-after z.1.0 z.1.2;
-                  some = entered-some t b p (entry t memory i p).minute x.legs x.some;
+                  rest = rest_after z.1.0 z.1.2;
+                  some = entered_some t b p (entry t memory i p).minute x.legs x.some;
                   left = left_after;
                   room = omega (arith, x.room, same);
                   held = held_after;
                 },
               )
 
-          pub write-onward : (l.origin ≡ no_origin → ⊥) → (s : ℕ) → s ≡ stations t → (depth_at t memory i l.origin < depth_at t memory i p) × Writing t w memory i v later k out₀ l.origin (leb s p) j' out'
-          write-onward n s e = rw e (subst (λ (q : ℕ). (q ≡ no_origin → ⊥) → (depth_at t memory i q < depth_at t memory i p) × Writing t w memory i v later k out₀ q (leb (stations t) p) j' out') (read-origin p x.stands l reads) from-there n)
+          pub write_onward : (l.origin ≡ no_origin → ⊥) → (s : ℕ) → s ≡ stations t → (depth_at t memory i l.origin < depth_at t memory i p) × Writing t w memory i v later k out₀ l.origin (leb s p) j' out'
+          write_onward n s e = rw e (subst (λ (q : ℕ). (q ≡ no_origin → ⊥) → (depth_at t memory i q < depth_at t memory i p) × Writing t w memory i v later k out₀ q (leb (stations t) p) j' out') (read_origin p x.stands l reads) from_there n)

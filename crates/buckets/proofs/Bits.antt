@@ -78,10 +78,10 @@ bit_half n k = bit-shr n 1 k ∙ ap (bit n) (one-add k)
 pub trailing : (w n : ℕ) → 0 < n → n < 2 ^ w → First (bit n) 0 w (count_trailing_zeros w n)
 unfolding count_trailing_zeros
 trailing zero n p q = absurd (omega arith)
-trailing (suc w) n p q = by-digit (n % 2) refl (trailing w (n / 2))
+trailing (suc w) n p q = by_digit (n % 2) refl (trailing w (n / 2))
   where
-    by-digit : (d : ℕ) → n % 2 ≡ d → (0 < n / 2 → n / 2 < 2 ^ w → First (bit (n / 2)) 0 w (count_trailing_zeros w (n / 2))) → First (bit n) 0 (suc w) (under d (count_trailing_zeros w (n / 2)))
-    by-digit zero e ih =
+    by_digit : (d : ℕ) → n % 2 ≡ d → (0 < n / 2 → n / 2 < 2 ^ w → First (bit (n / 2)) 0 w (count_trailing_zeros w (n / 2))) → First (bit n) 0 (suc w) (under d (count_trailing_zeros w (n / 2)))
+    by_digit zero e ih =
         let pw = pow-suc 2 w in
         let r = ih (omega arith) (omega arith) in record {
           from_on = omega arith;
@@ -93,8 +93,8 @@ trailing (suc w) n p q = by-digit (n % 2) refl (trailing w (n / 2))
         low : (k : ℕ) → n % 2 ≡ 0 → k < suc (count_trailing_zeros w (n / 2)) → First (bit (n / 2)) 0 w (count_trailing_zeros w (n / 2)) → bit n k ≡ 0
         low zero e b r = let one : n / 2 ^ 0 ≡ n = div-one n in omega arith
         low (suc k) e b r = sym (bit_half n k) ∙ r.before k (omega arith) (omega arith)
-    by-digit (suc zero) e ih = record { from_on = omega arith; below = omega arith; one = let one : n / 2 ^ 0 ≡ n = div-one n in omega arith; before = λ k a b. absurd (omega arith) }
-    by-digit (suc (suc d)) e ih = absurd (omega arith)
+    by_digit (suc zero) e ih = record { from_on = omega arith; below = omega arith; one = let one : n / 2 ^ 0 ≡ n = div-one n in omega arith; before = λ k a b. absurd (omega arith) }
+    by_digit (suc (suc d)) e ih = absurd (omega arith)
 
 pub bit_zero : (k : ℕ) → bit 0 k ≡ 0
 bit_zero k = let q : 0 / 2 ^ k ≡ 0 = div-eq_of_lt (pow_pos k) in omega arith

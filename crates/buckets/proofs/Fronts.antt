@@ -43,8 +43,8 @@ module _ {X : Type 0} {ahead : X → X → Bool} {minute_of : X → ℕ} (o : So
           (cases_eq k b);
     }
 
-    pub among-new : (from b b' : ℕ) → First (occupied bits) from 256 b' → ((d : X) → ahead (get_or (entries cs) (get_or first b' 0) d) (get_or (entries cs) (get_or first b 0) d) ≡ true) → Among cs bits first from b → Among cs bits first (b' + 1) b'
-    among-new from b b' f t w = record {
+    pub among_new : (from b b' : ℕ) → First (occupied bits) from 256 b' → ((d : X) → ahead (get_or (entries cs) (get_or first b' 0) d) (get_or (entries cs) (get_or first b 0) d) ≡ true) → Among cs bits first from b → Among cs bits first (b' + 1) b'
+    among_new from b b' f t w = record {
       known = f.below;
       holds = f.one;
       best = λ k l oc d. ⊎_elim
@@ -53,8 +53,8 @@ module _ {X : Type 0} {ahead : X → X → Bool} {minute_of : X → ℕ} (o : So
           (cases_eq k b');
     }
 
-    pub among-old : (from b b' : ℕ) → First (occupied bits) from 256 b' → ((d : X) → ahead (get_or (entries cs) (get_or first b' 0) d) (get_or (entries cs) (get_or first b 0) d) ≡ false) → Among cs bits first from b → Among cs bits first (b' + 1) b
-    among-old from b b' f t w = record {
+    pub among_old : (from b b' : ℕ) → First (occupied bits) from 256 b' → ((d : X) → ahead (get_or (entries cs) (get_or first b' 0) d) (get_or (entries cs) (get_or first b 0) d) ≡ false) → Among cs bits first from b → Among cs bits first (b' + 1) b
+    among_old from b b' f t w = record {
       known = w.known;
       holds = w.holds;
       best = λ k l oc d. ⊎_elim
@@ -63,8 +63,8 @@ module _ {X : Type 0} {ahead : X → X → Bool} {minute_of : X → ℕ} (o : So
           (cases_eq k b');
     }
 
-    pub among-all : (from b : ℕ) → Clear (occupied bits) from 256 → Among cs bits first from b → Leads ahead cs bits first b
-    among-all from b h w = record {
+    pub among_all : (from b : ℕ) → Clear (occupied bits) from 256 → Among cs bits first from b → Leads ahead cs bits first b
+    among_all from b h w = record {
       known = w.known;
       holds = w.holds;
       best = λ k l oc d. ⊎_elim (λ (lt : k < from). w.best k lt oc d) (λ (ge : from ≤ k). absurd (let z = h k ge l in omega arith)) (cases_lt k from);
@@ -77,25 +77,25 @@ module _ {X : Type 0} {ahead : X → X → Bool} {minute_of : X → ℕ} (o : So
 
   module _ (cs : List (Cell X)) (bits first : List ℕ) where
     -- one bucket more that is far
-    pub far-more : (bound from at b : ℕ) → First (occupied bits) at 256 b → ((d : X) → bound ≤ minute_of (get_or (entries cs) (get_or first b 0) d)) → Far minute_of cs bits first bound from at → Far minute_of cs bits first bound from (b + 1)
-    far-more bound from at b f here h = λ k lo hi oc d. ⊎_elim
+    pub far_more : (bound from at b : ℕ) → First (occupied bits) at 256 b → ((d : X) → bound ≤ minute_of (get_or (entries cs) (get_or first b 0) d)) → Far minute_of cs bits first bound from at → Far minute_of cs bits first bound from (b + 1)
+    far_more bound from at b f here h = λ k lo hi oc d. ⊎_elim
         (λ (q : k ≡ b). subst (λ m. bound ≤ minute_of (get_or (entries cs) (get_or first m 0) d)) (sym q) (here d))
         (λ ne. ⊎_elim (λ (lt : k < at). h k lo lt oc d) (λ (ge : at ≤ k). absurd (let z = f.before k ge (omega arith) in omega arith)) (cases_lt k at))
         (cases_eq k b)
 
     -- no bucket is left
-    pub far-rest : (bound from at to : ℕ) → Clear (occupied bits) at to → Far minute_of cs bits first bound from at → Far minute_of cs bits first bound from to
-    far-rest bound from at to c h = λ k lo hi oc d. ⊎_elim (λ (lt : k < at). h k lo lt oc d) (λ (ge : at ≤ k). absurd (let z = c k ge hi in omega arith)) (cases_lt k at)
+    pub far_rest : (bound from at to : ℕ) → Clear (occupied bits) at to → Far minute_of cs bits first bound from at → Far minute_of cs bits first bound from to
+    far_rest bound from at to c h = λ k lo hi oc d. ⊎_elim (λ (lt : k < at). h k lo lt oc d) (λ (ge : at ≤ k). absurd (let z = c k ge hi in omega arith)) (cases_lt k at)
 
     -- the bucket found is the first from `from` on
-    pub near-here : (bound from at to b : ℕ) → from ≤ at → b < to → First (occupied bits) at 256 b → ((d : X) → minute_of (get_or (entries cs) (get_or first b 0) d) < bound) → Far minute_of cs bits first bound from at → Near minute_of cs bits first bound from to b
-    near-here bound from at to b le lt f here h = record {
+    pub near_here : (bound from at to b : ℕ) → from ≤ at → b < to → First (occupied bits) at 256 b → ((d : X) → minute_of (get_or (entries cs) (get_or first b 0) d) < bound) → Far minute_of cs bits first bound from at → Near minute_of cs bits first bound from to b
+    near_here bound from at to b le lt f here h = record {
       from_on = omega (arith, f.from_on);
       below = lt;
       known = f.below;
       holds = f.one;
       near = here;
-      before = far-rest bound from at b f.before h;
+      before = far_rest bound from at b f.before h;
     }
 
     module _ (low : ℕ) (in_place : Firsts minute_of cs bits first (Lodged minute_of low)) where
@@ -123,8 +123,8 @@ module _ {X : Type 0} {ahead : X → X → Bool} {minute_of : X → ℕ} (o : So
       }
 
       -- or, where there is none, the first below that
-      pub second-round : (b : ℕ) → Far minute_of cs bits first (low + 256) (low % 256) 256 → Near minute_of cs bits first (low + 256) 0 (low % 256) b → Leads ahead cs bits first b
-      second-round b none n = record {
+      pub second_round : (b : ℕ) → Far minute_of cs bits first (low + 256) (low % 256) 256 → Near minute_of cs bits first (low + 256) 0 (low % 256) b → Leads ahead cs bits first b
+      second_round b none n = record {
         known = n.known;
         holds = n.holds;
         best = λ k l oc d. ⊎_elim

@@ -47,15 +47,15 @@ module _ {X : Type 0} {ahead : X → X → Bool} {minute_of : X → ℕ} (o : So
     short b lt = let p = sizes-part w.chains b 257 lt in omega (arith, w.count, w.fits)
 
     -- what is held, by the chains
-    pub held-is : in_cells ahead cs first ≡ total ahead (λ b. picked (entries cs) (w.chains b)) 256
-    held-is = total_same o (λ b. picked (entries cs) (w.chains b)) _ 256 (λ k lt. ap (picked (entries cs))
+    pub held_is : in_cells ahead cs first ≡ total ahead (λ b. picked (entries cs) (w.chains b)) 256
+    held_is = total_same o (λ b. picked (entries cs) (w.chains b)) _ 256 (λ k lt. ap (picked (entries cs))
         (walk_is (length cs) (nexts cs) (get_or first k 0) (w.chains k) (subst (λ m. Chain (nexts cs) m (w.chains k)) (starts-at first free k w.wide lt) (w.starts k (omega arith))) (short k (omega arith))))
 
-    chain-spare : Chain (nexts cs) free (w.chains 256)
-    chain-spare = subst (λ m. Chain (nexts cs) m (w.chains 256)) (starts_free first free 256 w.wide refl) (w.starts 256 (omega arith))
+    chain_spare : Chain (nexts cs) free (w.chains 256)
+    chain_spare = subst (λ m. Chain (nexts cs) m (w.chains 256)) (starts_free first free 256 w.wide refl) (w.starts 256 (omega arith))
 
-    pub chain-bucket : (b : ℕ) → b < 256 → Chain (nexts cs) (get_or first b 0) (w.chains b)
-    chain-bucket b lt = subst (λ m. Chain (nexts cs) m (w.chains b)) (starts-at first free b w.wide lt) (w.starts b (omega arith))
+    pub chain_bucket : (b : ℕ) → b < 256 → Chain (nexts cs) (get_or first b 0) (w.chains b)
+    chain_bucket b lt = subst (λ m. Chain (nexts cs) m (w.chains b)) (starts-at first free b w.wide lt) (w.starts b (omega arith))
 
     -- one chain loses its first cell i
     module _ (b i next : ℕ) (rest : List ℕ) (lt : b < 257) (is : w.chains b ≡ i ∷ rest) where
@@ -92,7 +92,7 @@ module _ {X : Type 0} {ahead : X → X → Bool} {minute_of : X → ℕ} (o : So
             (λ (q : k ≡ 256). subst (λ m. Chain (nexts cs) m (upd w.chains 256 rest k)) (sym (starts_free first next k w.wide q))
             (subst (Chain (nexts cs) next) (sym (upd_same w.chains 256 rest k q)) (subst (λ m. Chain (nexts cs) m rest) (sym (e ∙ ap (λ m. get_or (nexts cs) m 0) fi)) h.2)))
             (λ ne. subst (λ m. Chain (nexts cs) m (upd w.chains 256 rest k)) (sym (starts-at first next k w.wide (omega arith)))
-            (subst (Chain (nexts cs) (get_or first k 0)) (sym (keeps k (omega arith))) (chain-bucket w k (omega arith))))
+            (subst (Chain (nexts cs) (get_or first k 0)) (sym (keeps k (omega arith))) (chain_bucket w k (omega arith))))
             (cases_eq k 256);
         apart = λ b k j bl kl p q. w.apart b k j bl kl (inside w 256 i next rest (omega arith) is b j p) (inside w 256 i next rest (omega arith) is k j q);
         below = λ b j bl p. w.below b j bl (inside w 256 i next rest (omega arith) is b j p);
@@ -110,7 +110,7 @@ module _ {X : Type 0} {ahead : X → X → Bool} {minute_of : X → ℕ} (o : So
       }
 
   pub reserve_spare : {cs : List (Cell X)} {bits first : List ℕ} {free fresh len : ℕ} {P : ℕ → X → Type 0} (w : Fine ahead P 0 cs bits first free fresh len) (next : ℕ) → next ≡ get_or (nexts cs) free 0 → free < length cs → Reserved ahead P free cs bits first next fresh len
-  reserve_spare w next e lt = reserve w next e (w.chains 256) refl (chain-spare w) lt
+  reserve_spare w next e lt = reserve w next e (w.chains 256) refl (chain_spare w) lt
 
   spare_none : (ns : List ℕ) (a : ℕ) (is : List ℕ) → Chain ns a is → length ns ≤ a → length is ≡ 0
   spare_none ns a [] h le = refl
@@ -137,11 +137,11 @@ module _ {X : Type 0} {ahead : X → X → Bool} {minute_of : X → ℕ} (o : So
   }
 
   pub held_long : {out : ℕ} {cs : List (Cell X)} {bits first : List ℕ} {free fresh len : ℕ} {P : ℕ → X → Type 0} (w : Fine ahead P out cs bits first free fresh len) → length (in_cells ahead cs first) ≡ len
-  held_long {out} {cs} w = ap length (held-is w) ∙ total_long o (λ b. picked (entries cs) (w.chains b)) w.chains 256 (λ k lt. picked-long (w.chains k) (λ i p. let q = w.below k i (omega arith) p in omega (arith, w.fits, length-entries cs))) ∙ w.held
+  held_long {out} {cs} w = ap length (held_is w) ∙ total_long o (λ b. picked (entries cs) (w.chains b)) w.chains 256 (λ k lt. picked_long (w.chains k) (λ i p. let q = w.below k i (omega arith) p in omega (arith, w.fits, length-entries cs))) ∙ w.held
     where
-      picked-long : (ks : List ℕ) → ((i : ℕ) → In i ks → i < length (entries cs)) → length (picked (entries cs) ks) ≡ length ks
-      picked-long [] h = refl
-      picked-long (k ∷ ks) h = some (entries cs) k (h k (inl refl)) ∙ ap suc (picked-long ks (λ i p. h i (inr p)))
+      picked_long : (ks : List ℕ) → ((i : ℕ) → In i ks → i < length (entries cs)) → length (picked (entries cs) ks) ≡ length ks
+      picked_long [] h = refl
+      picked_long (k ∷ ks) h = some (entries cs) k (h k (inl refl)) ∙ ap suc (picked_long ks (λ i p. h i (inr p)))
         where
           some : (xs : List X) (k : ℕ) → k < length xs → length (take 1 (drop k xs) ++ picked (entries cs) ks) ≡ suc (length (picked (entries cs) ks))
           some [] k l = absurd (omega arith)
@@ -150,7 +150,7 @@ module _ {X : Type 0} {ahead : X → X → Bool} {minute_of : X → ℕ} (o : So
 
   pub full : {cs : List (Cell X)} {bits first : List ℕ} {free fresh len : ℕ} {P : ℕ → X → Type 0} (w : Fine ahead P 0 cs bits first free fresh len) → length cs ≤ free → length cs ≤ fresh → len ≡ length cs
   full {cs} w a b =
-      let z = spare_none (nexts cs) _ (w.chains 256) (chain-spare w) (omega (arith, length-nexts cs)) in
+      let z = spare_none (nexts cs) _ (w.chains 256) (chain_spare w) (omega (arith, length-nexts cs)) in
       let s = sizes-last w.chains 256 in
       omega (arith, w.count, w.held, w.fits)
 
@@ -175,14 +175,14 @@ module _ {X : Type 0} {ahead : X → X → Bool} {minute_of : X → ℕ} (o : So
     same-picked : (k : ℕ) → k < 257 → picked (entries cs') (r.fine.chains k) ≡ picked (entries cs) (r.fine.chains k)
     same-picked k l = ap (λ m. picked m (r.fine.chains k)) lk.same ∙ picked_else (entries cs) new e (r.fine.chains k) (r.loose k l)
 
-    long-first : length (set first b start) ≡ 256
-    long-first = length-set first b start ∙ r.fine.wide
+    long_first : length (set first b start) ≡ 256
+    long_first = length-set first b start ∙ r.fine.wide
 
-    long-nexts : length (nexts cs') ≡ length (nexts cs)
-    long-nexts = length-nexts cs' ∙ size ∙ sym (length-nexts cs)
+    long_nexts : length (nexts cs') ≡ length (nexts cs)
+    long_nexts = length-nexts cs' ∙ size ∙ sym (length-nexts cs)
 
-    still-chain : (k a : ℕ) → k < 257 → (k ≡ b → ⊥) → Chain (nexts cs) a (r.fine.chains k) → Chain (nexts cs') a (upd r.fine.chains b lk.js k)
-    still-chain k a l ne h = subst (Chain (nexts cs') a) (sym (upd_else r.fine.chains b lk.js k ne)) (chain_frame (nexts cs) (nexts cs') a (r.fine.chains k) long-nexts
+    still_chain : (k a : ℕ) → k < 257 → (k ≡ b → ⊥) → Chain (nexts cs) a (r.fine.chains k) → Chain (nexts cs') a (upd r.fine.chains b lk.js k)
+    still_chain k a l ne h = subst (Chain (nexts cs') a) (sym (upd_else r.fine.chains b lk.js k ne)) (chain_frame (nexts cs) (nexts cs') a (r.fine.chains k) long_nexts
         (λ j p. lk.frame j (λ q. ne (r.fine.apart k b j l (omega arith) p q)) (λ q. r.loose k l (subst (λ m. In m (r.fine.chains k)) q p))) h)
 
     pub placed : Fine ahead P 0 cs' bits' (set first b start) free fresh (len + 1)
@@ -191,15 +191,15 @@ module _ {X : Type 0} {ahead : X → X → Bool} {minute_of : X → ℕ} (o : So
         let sz = sizes-upd w.chains b lk.js 257 (omega arith) in
         let sz' = sizes-upd w.chains b lk.js 256 bl in
         let js = lk.size in
-        let wide = long-first in
+        let wide = long_first in
         record {
           chains = upd w.chains b lk.js;
           wide = wide;
           starts = λ k l. ⊎_elim
-              (λ (q : k ≡ 256). subst (λ m. Chain (nexts cs') m (upd w.chains b lk.js k)) (sym (starts_free (set first b start) free k wide q)) (still-chain k free l (omega arith) (subst (λ m. Chain (nexts cs) free (w.chains m)) (sym q) (chain-spare w))))
+              (λ (q : k ≡ 256). subst (λ m. Chain (nexts cs') m (upd w.chains b lk.js k)) (sym (starts_free (set first b start) free k wide q)) (still_chain k free l (omega arith) (subst (λ m. Chain (nexts cs) free (w.chains m)) (sym q) (chain_spare w))))
               (λ ne. subst (λ m. Chain (nexts cs') m (upd w.chains b lk.js k)) (sym (starts-at (set first b start) free k wide (omega arith))) (⊎_elim
               (λ (q : k ≡ b). subst (Chain (nexts cs') (get_or (set first b start) k 0)) (sym (upd_same w.chains b lk.js k q)) (subst (λ m. Chain (nexts cs') m lk.js) (sym (ap (λ m. get_or (set first b start) m 0) q ∙ get_or-set_same first b start 0 (omega (arith, w.wide)))) lk.chain))
-              (λ nb. still-chain k (get_or (set first b start) k 0) l nb (subst (λ m. Chain (nexts cs) m (w.chains k)) (sym (get_or-set_other first b k start 0 nb)) (chain-bucket w k (omega arith))))
+              (λ nb. still_chain k (get_or (set first b start) k 0) l nb (subst (λ m. Chain (nexts cs) m (w.chains k)) (sym (get_or-set_other first b k start 0 nb)) (chain_bucket w k (omega arith))))
               (cases_eq k b)))
               (cases_eq k 256);
           apart = λ k m i kl ml p q. ⊎_elim
@@ -226,12 +226,12 @@ module _ {X : Type 0} {ahead : X → X → Bool} {minute_of : X → ℕ} (o : So
               (cases_eq k b);
         }
 
-    pub placed-held : in_cells ahead cs' (set first b start) ≡ inserted ahead e (in_cells ahead cs first)
+    pub placed_held : in_cells ahead cs' (set first b start) ≡ inserted ahead e (in_cells ahead cs first)
     unfolding placed
-    placed-held = held-is placed ∙ total_insert o (λ k. picked (entries cs) (r.fine.chains k)) (λ k. picked (entries cs') (upd r.fine.chains b lk.js k)) b e 256 bl
+    placed_held = held_is placed ∙ total_insert o (λ k. picked (entries cs) (r.fine.chains k)) (λ k. picked (entries cs') (upd r.fine.chains b lk.js k)) b e 256 bl
         (λ k l ne. ap (picked (entries cs')) (upd_else r.fine.chains b lk.js k ne) ∙ same-picked k (omega arith))
         (ap (picked (entries cs')) (upd_same r.fine.chains b lk.js b refl) ∙ lk.holds)
-        ∙ ap (inserted ahead e) (sym (held-is r.fine))
+        ∙ ap (inserted ahead e) (sym (held_is r.fine))
 
   -- ---- the first cell of a bucket is taken out
 
@@ -256,10 +256,10 @@ module _ {X : Type 0} {ahead : X → X → Bool} {minute_of : X → ℕ} (o : So
           chains = upd w.chains b rest;
           wide = wide;
           starts = λ k l. ⊎_elim
-              (λ (q : k ≡ 256). subst (λ m. Chain (nexts cs) m (upd w.chains b rest k)) (sym (starts_free (set first b begin) free k wide q)) (subst (Chain (nexts cs) free) (sym (upd_else w.chains b rest k (omega arith))) (subst (λ m. Chain (nexts cs) free (w.chains m)) (sym q) (chain-spare w))))
+              (λ (q : k ≡ 256). subst (λ m. Chain (nexts cs) m (upd w.chains b rest k)) (sym (starts_free (set first b begin) free k wide q)) (subst (Chain (nexts cs) free) (sym (upd_else w.chains b rest k (omega arith))) (subst (λ m. Chain (nexts cs) free (w.chains m)) (sym q) (chain_spare w))))
               (λ ne. subst (λ m. Chain (nexts cs) m (upd w.chains b rest k)) (sym (starts-at (set first b begin) free k wide (omega arith))) (⊎_elim
               (λ (q : k ≡ b). subst (Chain (nexts cs) (get_or (set first b begin) k 0)) (sym (upd_same w.chains b rest k q)) (subst (λ m. Chain (nexts cs) m rest) (sym (ap (λ m. get_or (set first b begin) m 0) q ∙ at_b)) (head_on (nexts cs) (length cs) next rest (length-nexts cs) le (subst (λ m. Chain (nexts cs) m rest) (sym nis) (goes_on w b i next rest (omega arith) is)))))
-              (λ nb. subst (λ m. Chain (nexts cs) m (upd w.chains b rest k)) (sym (get_or-set_other first b k begin 0 nb)) (subst (Chain (nexts cs) (get_or first k 0)) (sym (upd_else w.chains b rest k nb)) (chain-bucket w k (omega arith))))
+              (λ nb. subst (λ m. Chain (nexts cs) m (upd w.chains b rest k)) (sym (get_or-set_other first b k begin 0 nb)) (subst (Chain (nexts cs) (get_or first k 0)) (sym (upd_else w.chains b rest k nb)) (chain_bucket w k (omega arith))))
               (cases_eq k b)))
               (cases_eq k 256);
           apart = λ k m j kl ml p q. w.apart k m j kl ml (inside w b i next rest (omega arith) is k j p) (inside w b i next rest (omega arith) is m j q);
@@ -268,7 +268,7 @@ module _ {X : Type 0} {ahead : X → X → Bool} {minute_of : X → ℕ} (o : So
           count = omega (arith, w.count);
           held = omega (arith, w.held);
           rises = λ k l. ⊎_elim
-              (λ (q : k ≡ b). subst (λ m. Ascends ahead (picked (entries cs) m)) (sym (upd_same w.chains b rest k q)) (ascends-rest (subst (λ m. Ascends ahead (picked (entries cs) m)) is (w.rises b bl))))
+              (λ (q : k ≡ b). subst (λ m. Ascends ahead (picked (entries cs) m)) (sym (upd_same w.chains b rest k q)) (ascends_rest (subst (λ m. Ascends ahead (picked (entries cs) m)) is (w.rises b bl))))
               (λ ne. subst (λ m. Ascends ahead (picked (entries cs) m)) (sym (upd_else w.chains b rest k ne)) (w.rises k l))
               (cases_eq k b);
           lodged = λ k l. ⊎_elim
@@ -286,8 +286,8 @@ module _ {X : Type 0} {ahead : X → X → Bool} {minute_of : X → ℕ} (o : So
         } in
         record { fine = fine; known = w.below b i (omega arith) (in_at i (sym is) (inl refl)); loose = λ k l p. lost w b i next rest (omega arith) is k l p }
       where
-        ascends-rest : Ascends ahead (picked (entries cs) (i ∷ rest)) → Ascends ahead (picked (entries cs) rest)
-        ascends-rest h = go (entries cs) i h
+        ascends_rest : Ascends ahead (picked (entries cs) (i ∷ rest)) → Ascends ahead (picked (entries cs) rest)
+        ascends_rest h = go (entries cs) i h
           where
             go : (xs : List X) (k : ℕ) → Ascends ahead (take 1 (drop k xs) ++ picked (entries cs) rest) → Ascends ahead (picked (entries cs) rest)
             go [] zero h = h
@@ -295,55 +295,55 @@ module _ {X : Type 0} {ahead : X → X → Bool} {minute_of : X → ℕ} (o : So
             go (x ∷ xs) zero h = h.1
             go (x ∷ xs) (suc k) h = go xs k h
 
-    behind-all : (x : X) (xs : List X) (y : X) (k : ℕ) → k < length xs → (ks : List ℕ) → Ascends ahead (take 1 (drop k xs) ++ picked (entries cs) ks) → ahead (get_or xs k y) x ≡ false → AllByRecursion (λ z. ahead z x ≡ false) (take 1 (drop k xs) ++ picked (entries cs) ks)
-    behind-all x [] y k l ks h f = absurd (omega arith)
-    behind-all x (z ∷ xs) y zero l ks h f = (f, All-weaker (λ v. ahead v z ≡ false) (λ v. ahead v x ≡ false) (λ v p. behind o v z x p f) (picked (entries cs) ks) h.0)
-    behind-all x (z ∷ xs) y (suc k) l ks h f = behind-all x xs y k (omega arith) ks h f
+    behind_all : (x : X) (xs : List X) (y : X) (k : ℕ) → k < length xs → (ks : List ℕ) → Ascends ahead (take 1 (drop k xs) ++ picked (entries cs) ks) → ahead (get_or xs k y) x ≡ false → AllByRecursion (λ z. ahead z x ≡ false) (take 1 (drop k xs) ++ picked (entries cs) ks)
+    behind_all x [] y k l ks h f = absurd (omega arith)
+    behind_all x (z ∷ xs) y zero l ks h f = (f, All-weaker (λ v. ahead v z ≡ false) (λ v. ahead v x ≡ false) (λ v p. behind o v z x p f) (picked (entries cs) ks) h.0)
+    behind_all x (z ∷ xs) y (suc k) l ks h f = behind_all x xs y k (omega arith) ks h f
 
     -- no entry of a chain is ahead of x where its first is not
-    chain-behind : (x : X) (k : ℕ) → k < 256 → ((d : X) → occupied bits k ≡ 1 → ahead (get_or (entries cs) (get_or first k 0) d) x ≡ false) → (ks : List ℕ) → w.chains k ≡ ks → AllByRecursion (λ z. ahead z x ≡ false) (picked (entries cs) ks)
-    chain-behind x k l f [] e = tt
-    chain-behind x k l f (j ∷ ks) e =
-        let c : Chain (nexts cs) (get_or first k 0) (j ∷ ks) = subst (Chain (nexts cs) (get_or first k 0)) e (chain-bucket w k l) in
+    chain_behind : (x : X) (k : ℕ) → k < 256 → ((d : X) → occupied bits k ≡ 1 → ahead (get_or (entries cs) (get_or first k 0) d) x ≡ false) → (ks : List ℕ) → w.chains k ≡ ks → AllByRecursion (λ z. ahead z x ≡ false) (picked (entries cs) ks)
+    chain_behind x k l f [] e = tt
+    chain_behind x k l f (j ∷ ks) e =
+        let c : Chain (nexts cs) (get_or first k 0) (j ∷ ks) = subst (Chain (nexts cs) (get_or first k 0)) e (chain_bucket w k l) in
         let inl' : j < length (entries cs) = omega (arith, c.1, length-nexts cs, length-entries cs) in
         let lit : occupied bits k ≡ 1 = ⊎_elim (λ (z : occupied bits k ≡ 0). absurd (let p = (w.marks k l).1 z in omega (arith, c.0, c.1, length-nexts cs))) (λ ne. omega (arith, bit_low (get_or bits (k / 64) 0) (k % 64))) (cases_eq (occupied bits k) 0) in
-        behind-all x (entries cs) x j inl' ks (subst (λ m. Ascends ahead (picked (entries cs) m)) e (w.rises k l)) (subst (λ m. ahead (get_or (entries cs) m x) x ≡ false) c.0 (f x lit))
+        behind_all x (entries cs) x j inl' ks (subst (λ m. Ascends ahead (picked (entries cs) m)) e (w.rises k l)) (subst (λ m. ahead (get_or (entries cs) m x) x ≡ false) c.0 (f x lit))
 
-    ascends-from : (xs : List X) (k : ℕ) (y : X) → k < length xs → Ascends ahead (take 1 (drop k xs) ++ picked (entries cs) rest) → AllByRecursion (λ z. ahead z (get_or xs k y) ≡ false) (picked (entries cs) rest)
-    ascends-from [] k y l h = absurd (omega arith)
-    ascends-from (x ∷ xs) zero y l h = h.0
-    ascends-from (x ∷ xs) (suc k) y l h = ascends-from xs k y (omega arith) h
+    ascends_from : (xs : List X) (k : ℕ) (y : X) → k < length xs → Ascends ahead (take 1 (drop k xs) ++ picked (entries cs) rest) → AllByRecursion (λ z. ahead z (get_or xs k y) ≡ false) (picked (entries cs) rest)
+    ascends_from [] k y l h = absurd (omega arith)
+    ascends_from (x ∷ xs) zero y l h = h.0
+    ascends_from (x ∷ xs) (suc k) y l h = ascends_from xs k y (omega arith) h
 
     -- no entry left is ahead of x, where no bucket's first was
     pub left_behind : (x : X) → ((d : X) → x ≡ get_or (entries cs) i d) → ((k : ℕ) → k < 256 → occupied bits k ≡ 1 → (d : X) → ahead (get_or (entries cs) (get_or first k 0) d) x ≡ false) → (k : ℕ) → k < 256 → AllByRecursion (λ z. ahead z x ≡ false) (picked (entries cs) (upd w.chains b rest k))
     left_behind x xis lead k l =
         let il : i < length (entries cs) = omega (arith, w.below b i (omega arith) (in_at i (sym is) (inl refl)), w.fits, length-entries cs) in
         ⊎_elim
-        (λ (q : k ≡ b). subst (λ m. AllByRecursion (λ z. ahead z x ≡ false) (picked (entries cs) m)) (sym (upd_same w.chains b rest k q)) (subst (λ m. AllByRecursion (λ z. ahead z m ≡ false) (picked (entries cs) rest)) (sym (xis x)) (ascends-from (entries cs) i x il (subst (λ m. Ascends ahead (picked (entries cs) m)) is (w.rises b bl)))))
-        (λ ne. subst (λ m. AllByRecursion (λ z. ahead z x ≡ false) (picked (entries cs) m)) (sym (upd_else w.chains b rest k ne)) (chain-behind x k l (λ d z. lead k l z d) (w.chains k) refl))
+        (λ (q : k ≡ b). subst (λ m. AllByRecursion (λ z. ahead z x ≡ false) (picked (entries cs) m)) (sym (upd_same w.chains b rest k q)) (subst (λ m. AllByRecursion (λ z. ahead z m ≡ false) (picked (entries cs) rest)) (sym (xis x)) (ascends_from (entries cs) i x il (subst (λ m. Ascends ahead (picked (entries cs) m)) is (w.rises b bl)))))
+        (λ ne. subst (λ m. AllByRecursion (λ z. ahead z x ≡ false) (picked (entries cs) m)) (sym (upd_else w.chains b rest k ne)) (chain_behind x k l (λ d z. lead k l z d) (w.chains k) refl))
         (cases_eq k b)
 
     -- what is held without that cell
-    pub unlinked-held : (x : X) → ((d : X) → x ≡ get_or (entries cs) i d) → ((k : ℕ) → k < 256 → occupied bits k ≡ 1 → (d : X) → ahead (get_or (entries cs) (get_or first k 0) d) x ≡ false) → in_cells ahead cs first ≡ x ∷ in_cells ahead cs (set first b begin)
+    pub unlinked_held : (x : X) → ((d : X) → x ≡ get_or (entries cs) i d) → ((k : ℕ) → k < 256 → occupied bits k ≡ 1 → (d : X) → ahead (get_or (entries cs) (get_or first k 0) d) x ≡ false) → in_cells ahead cs first ≡ x ∷ in_cells ahead cs (set first b begin)
     unfolding unlinked
-    unlinked-held x xis lead =
+    unlinked_held x xis lead =
         let il : i < length (entries cs) = omega (arith, w.below b i (omega arith) (in_at i (sym is) (inl refl)), w.fits, length-entries cs) in
         let f : ℕ → List X = λ k. picked (entries cs) (upd w.chains b rest k) in
         let g : ℕ → List X = λ k. picked (entries cs) (w.chains k) in
         let at_b : g b ≡ x ∷ f b = ap (picked (entries cs)) is ∙ ap (λ l. l ++ picked (entries cs) rest) (pick (entries cs) i x il ∙ ap (λ y. y ∷ []) (sym (xis x))) ∙ ap (λ l. x ∷ picked (entries cs) l) (sym (upd_same w.chains b rest b refl)) in
-        held-is w ∙ total_cons o f g b x 256 bl (λ k l ne. ap (picked (entries cs)) (sym (upd_else w.chains b rest k ne))) at_b
+        held_is w ∙ total_cons o f g b x 256 bl (λ k l ne. ap (picked (entries cs)) (sym (upd_else w.chains b rest k ne))) at_b
         ∙ inserted-first o x (total ahead f 256) (all_total o (λ z. ahead z x ≡ false) f 256 (left_behind x xis lead))
-        ∙ ap (λ l. x ∷ l) (sym (held-is unlinked.fine))
+        ∙ ap (λ l. x ∷ l) (sym (held_is unlinked.fine))
 
   -- ---- a cell is given back
 
   module _ {cs : List (Cell X)} {bits first : List ℕ} {free fresh len new : ℕ} {P : ℕ → X → Type 0} (r : Reserved ahead P new cs bits first free fresh len)
       (cs' : List (Cell X)) (size : length cs' ≡ length cs) (eis : entries cs' ≡ entries cs) (nis : nexts cs' ≡ set (nexts cs) new free) where
-    long-next : length (nexts cs') ≡ length (nexts cs)
-    long-next = length-nexts cs' ∙ size ∙ sym (length-nexts cs)
+    long_next : length (nexts cs') ≡ length (nexts cs)
+    long_next = length-nexts cs' ∙ size ∙ sym (length-nexts cs)
 
     frames : (k a : ℕ) → k < 257 → Chain (nexts cs) a (r.fine.chains k) → Chain (nexts cs') a (r.fine.chains k)
-    frames k a l h = chain_frame (nexts cs) (nexts cs') a (r.fine.chains k) long-next
+    frames k a l h = chain_frame (nexts cs) (nexts cs') a (r.fine.chains k) long_next
         (λ j p. ap (λ m. get_or m j 0) nis ∙ get_or-set_other (nexts cs) new j free 0 (λ q. r.loose k l (subst (λ m. In m (r.fine.chains k)) q p))) h
 
     had : (k i : ℕ) → In i (upd r.fine.chains 256 (new ∷ r.fine.chains 256) k) → In i (r.fine.chains k) ⊎ ((i ≡ new) × (k ≡ 256))
@@ -364,8 +364,8 @@ module _ {X : Type 0} {ahead : X → X → Bool} {minute_of : X → ℕ} (o : So
           wide = w.wide;
           starts = λ k l. ⊎_elim
               (λ (q : k ≡ 256). subst (λ m. Chain (nexts cs') m (upd w.chains 256 spare k)) (sym (starts_free first new k w.wide q)) (subst (Chain (nexts cs') new) (sym (upd_same w.chains 256 spare k q))
-              (refl, omega (arith, long-next), subst (λ m. Chain (nexts cs') m (w.chains 256)) (sym (ap (λ m. get_or m new 0) nis ∙ get_or-set_same (nexts cs) new free 0 nl)) (frames 256 free (omega arith) (chain-spare w)))))
-              (λ ne. subst (λ m. Chain (nexts cs') m (upd w.chains 256 spare k)) (sym (starts-at first new k w.wide (omega arith))) (subst (Chain (nexts cs') (get_or first k 0)) (sym (keeps k (omega arith))) (frames k (get_or first k 0) l (chain-bucket w k (omega arith)))))
+              (refl, omega (arith, long_next), subst (λ m. Chain (nexts cs') m (w.chains 256)) (sym (ap (λ m. get_or m new 0) nis ∙ get_or-set_same (nexts cs) new free 0 nl)) (frames 256 free (omega arith) (chain_spare w)))))
+              (λ ne. subst (λ m. Chain (nexts cs') m (upd w.chains 256 spare k)) (sym (starts-at first new k w.wide (omega arith))) (subst (Chain (nexts cs') (get_or first k 0)) (sym (keeps k (omega arith))) (frames k (get_or first k 0) l (chain_bucket w k (omega arith)))))
               (cases_eq k 256);
           apart = λ k m i kl ml p q. ⊎_elim
               (λ p'. ⊎_elim (λ q'. w.apart k m i kl ml p' q') (λ q'. absurd (r.loose k kl (subst (λ n. In n (w.chains k)) q'.0 p'))) (had m i q))
@@ -380,10 +380,10 @@ module _ {X : Type 0} {ahead : X → X → Bool} {minute_of : X → ℕ} (o : So
           marks = λ k l. let old = w.marks k l in (λ z. let p = old.0 z in omega arith, λ z. let p = old.1 z in omega arith);
         }
 
-    pub released-held : in_cells ahead cs' first ≡ in_cells ahead cs first
+    pub released_held : in_cells ahead cs' first ≡ in_cells ahead cs first
     unfolding released
-    released-held = held-is released ∙ total_same o (λ k. picked (entries cs) (r.fine.chains k)) (λ k. picked (entries cs') (upd r.fine.chains 256 (new ∷ r.fine.chains 256) k)) 256
-        (λ k l. ap (picked (entries cs')) (upd_else r.fine.chains 256 (new ∷ r.fine.chains 256) k (omega arith)) ∙ ap (λ m. picked m (r.fine.chains k)) eis) ∙ sym (held-is r.fine)
+    released_held = held_is released ∙ total_same o (λ k. picked (entries cs) (r.fine.chains k)) (λ k. picked (entries cs') (upd r.fine.chains 256 (new ∷ r.fine.chains 256) k)) 256
+        (λ k l. ap (picked (entries cs')) (upd_else r.fine.chains 256 (new ∷ r.fine.chains 256) k (omega arith)) ∙ ap (λ m. picked m (r.fine.chains k)) eis) ∙ sym (held_is r.fine)
 
   -- ---- nothing held
 
@@ -413,15 +413,15 @@ module _ {X : Type 0} {ahead : X → X → Bool} {minute_of : X → ℕ} (o : So
 
     pub empty-held : in_cells ahead cs first ≡ []
     unfolding empty
-    empty-held = held-is (empty {P = λ _ _. Unit {0}}) ∙ total_none o (λ k. []) 256 (λ k l. refl)
+    empty-held = held_is (empty {P = λ _ _. Unit {0}}) ∙ total_none o (λ k. []) 256 (λ k l. refl)
 
   -- nothing is held where no bit is set
   pub clear_held : {cs : List (Cell X)} {bits first : List ℕ} {free fresh len : ℕ} {P : ℕ → X → Type 0} (w : Fine ahead P 0 cs bits first free fresh len) → Clear (occupied bits) 0 256 → in_cells ahead cs first ≡ []
-  clear_held {cs} {bits} {first} w h = held-is w ∙ total_none o (λ k. picked (entries cs) (w.chains k)) 256 (λ k l. ap (picked (entries cs)) (nil_from_length (w.chains k) (spare_none (nexts cs) (get_or first k 0) (w.chains k) (chain-bucket w k l) (omega (arith, (w.marks k l).1 (h k (omega arith) l), length-nexts cs)))))
+  clear_held {cs} {bits} {first} w h = held_is w ∙ total_none o (λ k. picked (entries cs) (w.chains k)) 256 (λ k l. ap (picked (entries cs)) (nil_from_length (w.chains k) (spare_none (nexts cs) (get_or first k 0) (w.chains k) (chain_bucket w k l) (omega (arith, (w.marks k l).1 (h k (omega arith) l), length-nexts cs)))))
 
   -- a bucket that begins in the cells
   pub head_cell : {cs : List (Cell X)} {bits first : List ℕ} {free fresh len : ℕ} {P : ℕ → X → Type 0} (w : Fine ahead P 0 cs bits first free fresh len) (b i : ℕ) → b < 256 → i ≡ get_or first b 0 → i < length cs → (rest : List ℕ) × (w.chains b ≡ i ∷ rest)
-  head_cell {cs} {bits} {first} w b i bl e lt = go (w.chains b) (subst (λ m. Chain (nexts cs) m (w.chains b)) (sym e) (chain-bucket w b bl))
+  head_cell {cs} {bits} {first} w b i bl e lt = go (w.chains b) (subst (λ m. Chain (nexts cs) m (w.chains b)) (sym e) (chain_bucket w b bl))
     where
       go : (is : List ℕ) → Chain (nexts cs) i is → (rest : List ℕ) × (is ≡ i ∷ rest)
       go [] h = absurd (omega (arith, h, length-nexts cs))

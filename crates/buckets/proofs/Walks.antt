@@ -196,8 +196,8 @@ module _ {X : Type 0} {ahead : X → X → Bool} {minute_of : X → ℕ} (o : So
 
   module _ (cs : List (Cell X)) (is : List ℕ) (head new : ℕ) (e : X) (chain : Chain (nexts cs) head is) (out : In new is → ⊥) (lt : new < length cs) where
     -- e goes to the front
-    pub linked-first : ((d : X) → head < length cs → ahead (get_or (entries cs) head d) e ≡ false) → Linked ahead cs (set cs new (record { entry = e; next = head })) is new e new
-    linked-first f =
+    pub linked_first : ((d : X) → head < length cs → ahead (get_or (entries cs) head d) e ≡ false) → Linked ahead cs (set cs new (record { entry = e; next = head })) is new e new
+    linked_first f =
         let c : Cell X = record { entry = e; next = head } in
         let ns = nexts cs in
         let len : length ns ≡ length cs = length-map cs (λ (c : Cell X). c.next) in
@@ -219,9 +219,9 @@ module _ {X : Type 0} {ahead : X → X → Bool} {minute_of : X → ℕ} (o : So
         }
 
     -- e goes behind the cell x
-    pub linked-behind : (x : ℕ) (y : X) → y ≡ get_or (entries cs) x y → Sought ahead (entries cs) is e x → Linked ahead cs (set (set cs new (record { entry = e; next = get_or (nexts cs) x 0 })) x (record { entry = y; next = new })) is new e head
+    pub linked_behind : (x : ℕ) (y : X) → y ≡ get_or (entries cs) x y → Sought ahead (entries cs) is e x → Linked ahead cs (set (set cs new (record { entry = e; next = get_or (nexts cs) x 0 })) x (record { entry = y; next = new })) is new e head
     unfolding splice
-    linked-behind x y yis w =
+    linked_behind x y yis w =
         let ns = nexts cs in
         let xs = entries cs in
         let c : Cell X = record { entry = e; next = get_or ns x 0 } in

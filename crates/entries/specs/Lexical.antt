@@ -84,15 +84,15 @@ module _ {X : Type 0} (n : X → ℕ) where
   }
 
   module _ {r : X → X → Bool} {T : X → X → Type 0} (o : Rests r T) where
-    pub then-up : Rests (λ x y. first_by (n x) (n y) (r x y)) (λ x y. (n x ≡ n y) × T x y)
-    then-up = record {
+    pub then_up : Rests (λ x y. first_by (n x) (n y) (r x y)) (λ x y. (n x ≡ n y) × T x y)
+    then_up = record {
       strict = λ x y. strict_first (n x) (n y) (r x y) (r y x) (o.strict x y);
       chain = λ x y z. chain_first (n x) (n y) (n z) (r x y) (r y z) (r x z) (o.chain x y z);
       ties = λ x y p q. let h = ties_first (n x) (n y) (r x y) (r y x) p q in (h.0, o.ties x y h.1 h.2);
     }
 
-    pub then-down : Rests (λ x y. first_by (n y) (n x) (r x y)) (λ x y. (n x ≡ n y) × T x y)
-    then-down = record {
+    pub then_down : Rests (λ x y. first_by (n y) (n x) (r x y)) (λ x y. (n x ≡ n y) × T x y)
+    then_down = record {
       strict = λ x y. strict_first (n y) (n x) (r x y) (r y x) (o.strict x y);
       chain = λ x y z p q. chain_first (n z) (n y) (n x) (r y z) (r x y) (r x z) (λ b a. o.chain x y z a b) q p;
       ties = λ x y p q. let h = ties_first (n x) (n y) (r y x) (r x y) q p in (h.0, o.ties x y h.2 h.1);

@@ -1,7 +1,7 @@
 ghost use Rattle.std.specs.Prelude.{nat_lt};
 ghost use Rattle.entries.specs.Kinds.{board_ahead};
 ghost use Rattle.entries.specs.declared.board.BoardEntry.{BoardEntry};
-ghost use Rattle.entries.specs.Lexical.{first_below, last_up, then-up};
+ghost use Rattle.entries.specs.Lexical.{first_below, last_up, then_up};
 
 use queue::Entry;
 use timetable::ConnectionNo;
@@ -18,7 +18,7 @@ impl Entry for BoardEntry {
 
     ghost minute_of = { λ x. x.minute };
 
-    ghost sound = { let o = then-up (λ (x : BoardEntry). x.minute) (last_up (λ (x : BoardEntry). x.connection.0)) in
+    ghost sound = { let o = then_up (λ (x : BoardEntry). x.minute) (last_up (λ (x : BoardEntry). x.connection.0)) in
         record {
           strict = o.strict;
           chain = o.chain;

@@ -1,7 +1,7 @@
 ghost use Rattle.std.specs.Prelude.{nat_lt};
 ghost use Rattle.entries.specs.Kinds.{first_by, label_ahead};
 ghost use Rattle.entries.specs.declared.label.LabelEntry.{LabelEntry};
-ghost use Rattle.entries.specs.Lexical.{first_below, last_down, then-up, then-down};
+ghost use Rattle.entries.specs.Lexical.{first_below, last_down, then_up, then_down};
 
 use crate::numbers::{Place, Rank};
 use queue::Entry;
@@ -21,7 +21,7 @@ impl Entry for LabelEntry {
 
     ghost minute_of = { λ x. x.minute };
 
-    ghost sound = { let o = then-up (λ (x : LabelEntry). x.minute) (then-down (λ (x : LabelEntry). x.rank.0) (then-up (λ (x : LabelEntry). x.place.0) (last_down (λ (x : LabelEntry). x.origin.0)))) in
+    ghost sound = { let o = then_up (λ (x : LabelEntry). x.minute) (then_down (λ (x : LabelEntry). x.rank.0) (then_up (λ (x : LabelEntry). x.place.0) (last_down (λ (x : LabelEntry). x.origin.0)))) in
         record {
           strict = o.strict;
           chain = o.chain;

@@ -30,12 +30,12 @@ module _ {X : Type 0} {ahead : X → X → Bool} {minute_of : X → ℕ} (o : So
         let len = length-take-le k xs (omega arith) in
         set_split (take k xs) n e (omega arith) ∙ (λ i. take-take n k xs (omega arith) i ++ e ∷ drop_all (suc n) (take k xs) (omega arith) i)
 
-    pub put-bag : sorted ahead (set (take k xs) n e) ≡ inserted ahead e (sorted ahead (take n xs))
-    put-bag = ap (sorted ahead) put_is ∙ sorted_push o (take n xs) e
+    pub put_bag : sorted ahead (set (take k xs) n e) ≡ inserted ahead e (sorted ahead (take n xs))
+    put_bag = ap (sorted ahead) put_is ∙ sorted_push o (take n xs) e
 
-    pub put-rising : Heaped ahead (take n xs) → Rising ahead (set (take k xs) n e) n
+    pub put_rising : Heaped ahead (take n xs) → Rising ahead (set (take k xs) n e) n
     unfolding Heaped Rising
-    put-rising h =
+    put_rising h =
         let size : length (take n xs) ≡ n = length-take-le n xs (omega arith) in
         let size' : length (take k xs) ≡ k = length-take-le k xs (omega arith) in
         let size'' : length (set (take k xs) n e) ≡ k = length-set (take k xs) n e ∙ size' in
@@ -53,36 +53,36 @@ module _ {X : Type 0} {ahead : X → X → Bool} {minute_of : X → ℕ} (o : So
     size : length (take n xs) ≡ n
     size = length-take-le n xs within
 
-    held-is : take n xs ≡ take k xs ++ last ∷ []
-    held-is = ap (λ m. take m xs) (sym is) ∙ take_more xs k last (omega arith) ∙ ap (λ y. take k xs ++ y ∷ []) (sym end)
+    held_is : take n xs ≡ take k xs ++ last ∷ []
+    held_is = ap (λ m. take m xs) (sym is) ∙ take_more xs k last (omega arith) ∙ ap (λ y. take k xs ++ y ∷ []) (sym end)
 
-    left-bag : (m : ℕ) → m ≡ k → inserted ahead first (sorted ahead left) ≡ sorted ahead (take n xs)
+    left_bag : (m : ℕ) → m ≡ k → inserted ahead first (sorted ahead left) ≡ sorted ahead (take n xs)
     unfolding sorted inserted
-    left-bag zero e =
+    left_bag zero e =
         let none : take k xs ≡ [] = ap (λ m. take m xs) (sym e) in
         let same : first ≡ last = head ∙ ap (λ m. get_or xs m first) e ∙ get_or_default xs k first last (omega arith) ∙ sym end in
-        ap (λ l. inserted ahead first (sorted ahead (set l 0 last))) none ∙ ap (λ y. y ∷ []) same ∙ sym (ap (sorted ahead) held-is ∙ ap (λ l. sorted ahead (l ++ last ∷ [])) none)
-    left-bag (suc m) e =
+        ap (λ l. inserted ahead first (sorted ahead (set l 0 last))) none ∙ ap (λ y. y ∷ []) same ∙ sym (ap (sorted ahead) held_is ∙ ap (λ l. sorted ahead (l ++ last ∷ [])) none)
+    left_bag (suc m) e =
         let len : length (take k xs) ≡ k = length-take-le k xs (omega arith) in
         let here : get_or (take k xs) 0 first ≡ first = get_or-take k xs 0 first (omega arith) ∙ sym head in
-        ap (λ y. inserted ahead y (sorted ahead left)) (sym here) ∙ sorted-set o (take k xs) 0 last first (omega arith) ∙ sym (ap (sorted ahead) held-is ∙ sorted_push o (take k xs) last)
+        ap (λ y. inserted ahead y (sorted ahead left)) (sym here) ∙ sorted-set o (take k xs) 0 last first (omega arith) ∙ sym (ap (sorted ahead) held_is ∙ sorted_push o (take k xs) last)
 
-    behind-first : Heaped ahead (take n xs) → AllByRecursion (λ y. ahead y first ≡ false) (take n xs)
-    behind-first h = let s = size in All-from_get_or (λ y. ahead y first ≡ false) (take n xs) first
+    behind_first : Heaped ahead (take n xs) → AllByRecursion (λ y. ahead y first ≡ false) (take n xs)
+    behind_first h = let s = size in All-from_get_or (λ y. ahead y first ≡ false) (take n xs) first
         (λ i l. by refl (head ∙ sym (get_or-take n xs 0 first (omega arith))) (top o (take n xs) first h i i (omega arith) l))
 
-    pub take-bag : Heaped ahead (take n xs) → sorted ahead (take n xs) ≡ first ∷ sorted ahead left
-    take-bag h =
+    pub take_bag : Heaped ahead (take n xs) → sorted ahead (take n xs) ≡ first ∷ sorted ahead left
+    take_bag h =
         let P : X → Type 0 = λ y. ahead y first ≡ false in
-        let all = behind-first h in
+        let all = behind_first h in
         let s = size in
         let front : AllByRecursion P (take k xs) = subst (AllByRecursion P) (take-take k n xs (omega arith)) (All-take P k (take n xs) all) in
         let at-end : P last = by (end ∙ sym (get_or-take n xs k last (omega arith)) ∙ get_or_default (take n xs) k last first (omega arith)) (head ∙ sym (get_or-take n xs 0 first (omega arith))) (top o (take n xs) first h k k (omega arith) (omega arith)) in
-        sym (left-bag k refl) ∙ inserted-first o first (sorted ahead left) (all_sorted o P left (All-set P (take k xs) 0 last at-end front))
+        sym (left_bag k refl) ∙ inserted-first o first (sorted ahead left) (all_sorted o P left (All-set P (take k xs) 0 last at-end front))
 
-    pub take-sinking : Heaped ahead (take n xs) → Sinking ahead left 0
+    pub take_sinking : Heaped ahead (take n xs) → Sinking ahead left 0
     unfolding Heaped Sinking
-    take-sinking h =
+    take_sinking h =
         let s = size in
         let size' : length (take k xs) ≡ k = length-take-le k xs (omega arith) in
         let size'' : length left ≡ k = length-set (take k xs) 0 last ∙ size' in

@@ -139,9 +139,9 @@ module _ {X : Type 0} {ahead : X → X → Bool} {minute_of : X → ℕ} (o : So
         (λ (kc : k ≡ c → ⊥). let kr : k ≡ c + 1 = omega arith in by (at xs d kr ∙ get_or_default xs (c + 1) d y cn ∙ sym yis) (get_or_default xs c d x (omega arith) ∙ sym xis) f)
         (cases_eq k c)
 
-    pub best-right : ahead y x ≡ true → Best ahead xs j (c + 1)
+    pub best_right : ahead y x ≡ true → Best ahead xs j (c + 1)
     unfolding Best
-    best-right t = λ d k ch kn. ⊎_elim
+    best_right t = λ d k ch kn. ⊎_elim
         (λ (kc : k ≡ c). by (at xs d kc ∙ get_or_default xs c d x (omega arith) ∙ sym xis) (get_or_default xs (c + 1) d y cn ∙ sym yis) (o.strict y x t))
         (λ (kc : k ≡ c → ⊥). let kr : k ≡ c + 1 = omega arith in by (at xs d kr) refl (never o _))
         (cases_eq k c)

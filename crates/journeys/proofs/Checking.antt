@@ -89,12 +89,12 @@ module _ (t : Table) (l : Lawful t) (s : ℕ) where
           q : ((any_of (same_entry x) (opening t s) || any_of (λ g. any_of (same_entry x) (leads t g)) before) ≡ true) × (grounded_in t s (x ∷ before) rest ≡ true)
           q = and_parts (any_of (same_entry x) (opening t s) || any_of (λ g. any_of (same_entry x) (leads t g)) before) (grounded_in t s (x ∷ before) rest) h
 
-          here-sound : Sound (ways t s) full x
-          here-sound = one full before x k q.0
+          here_sound : Sound (ways t s) full x
+          here_sound = one full before x k q.0
 
           on : (g : Entry) → Mem g (x ∷ rest) → Sound (ways t s) full g
-          on g here = here-sound
-          on g (there n) = ih (λ y z. f y (there z)) (known_more full before x (f x here) here-sound k) q.1 g n
+          on g here = here_sound
+          on g (there n) = ih (λ y z. f y (there z)) (known_more full before x (f x here) here_sound k) q.1 g n
 
   apart : (full : List Entry) → all_of (λ a. all_of (apart_from a) full) full ≡ true → Apart full
   apart full h = record {
@@ -119,12 +119,12 @@ module _ (t : Table) (l : Lawful t) (s : ℕ) where
       record {
         sound = sound_all full [] full (λ e m. m) (λ g m. elim m [ ]) a.0;
         firsts = λ i p n f. covered full (entry n i p nowhere) (all_at (λ x. any_of (covers x) full) (opening t s) b.0 (entry n i p nowhere) ((opening_begins t l s).put i p n f));
-        closed = λ g m p n f. covered full (entry n g.rank p g.place) (all_at (λ x. any_of (covers x) full) (leads t g) (all_at (λ g. all_of (λ x. any_of (covers x) full) (leads t g)) full c.0 g m) (entry n g.rank p g.place) (in-leads g (entry n g.rank p g.place) ((leads-put t l s g []).put (entry n g.rank p g.place) (record { given = f; rank = refl; origin = refl }))));
+        closed = λ g m p n f. covered full (entry n g.rank p g.place) (all_at (λ x. any_of (covers x) full) (leads t g) (all_at (λ g. all_of (λ x. any_of (covers x) full) (leads t g)) full c.0 g m) (entry n g.rank p g.place) (in_leads g (entry n g.rank p g.place) ((leads-put t l s g []).put (entry n g.rank p g.place) (record { given = f; rank = refl; origin = refl }))));
         apart = apart full c.1;
       }
     where
-      in-leads : (g e : Entry) → Mem e (leads t g ++ []) → Mem e (leads t g)
-      in-leads g e m = elim (join_parts (leads t g) [] m) [ inl k ↦ k | inr k ↦ elim k [ ] ]
+      in_leads : (g e : Entry) → Mem e (leads t g ++ []) → Mem e (leads t g)
+      in_leads g e m = elim (join_parts (leads t g) [] m) [ inl k ↦ k | inr k ↦ elim k [ ] ]
 
 pub check_sound : CheckSound
 check_sound t l s full h = exactly t l s full (done t l s full h)

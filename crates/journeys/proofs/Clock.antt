@@ -28,20 +28,20 @@ after d p x = x + (d + (p - x % p)) % p
 
 module _ (d p : ℕ) (low : d < p) where
   pub after_is : (x : ℕ) → ((x % p ≤ d) × (after d p x ≡ d + p * (x / p))) ⊎ ((d < x % p) × (after d p x ≡ d + p * (x / p + 1)))
-  after_is x = by-case (wait_cases d (x % p) p low (mod-lt x (omega arith)))
+  after_is x = by_case (wait_cases d (x % p) p low (mod-lt x (omega arith)))
     where
       r : x % p < p
       r = mod-lt x (omega arith)
 
-      by-case : ((x % p ≤ d) × ((d + (p - x % p)) % p ≡ d - x % p)) ⊎ ((d < x % p) × ((d + (p - x % p)) % p ≡ d + p - x % p)) → ((x % p ≤ d) × (after d p x ≡ d + p * (x / p))) ⊎ ((d < x % p) × (after d p x ≡ d + p * (x / p + 1)))
-      by-case (inl h) = inl (h.0, omega (arith, h.0, h.1, div-add-mod x p))
-      by-case (inr h) = inr (h.0, omega (arith, h.0, h.1, r, div-add-mod x p))
+      by_case : ((x % p ≤ d) × ((d + (p - x % p)) % p ≡ d - x % p)) ⊎ ((d < x % p) × ((d + (p - x % p)) % p ≡ d + p - x % p)) → ((x % p ≤ d) × (after d p x ≡ d + p * (x / p))) ⊎ ((d < x % p) × (after d p x ≡ d + p * (x / p + 1)))
+      by_case (inl h) = inl (h.0, omega (arith, h.0, h.1, div-add-mod x p))
+      by_case (inr h) = inr (h.0, omega (arith, h.0, h.1, r, div-add-mod x p))
 
   pub after-departs : (x : ℕ) → after d p x % p ≡ d
   after-departs x = elim (after_is x) [ inl h ↦ ap (λ y. y % p) h.1 ∙ add-mul-mod_self_left d p (x / p) ∙ mod-eq_of_lt low | inr h ↦ ap (λ y. y % p) h.1 ∙ add-mul-mod_self_left d p (x / p + 1) ∙ mod-eq_of_lt low ]
 
   pub after_least : (x m : ℕ) → m % p ≡ d → x ≤ m → after d p x ≤ m
-  after_least x m e h = by-case (after_is x)
+  after_least x m e h = by_case (after_is x)
     where
       a : p * (x / p) + x % p ≡ x
       a = div-add-mod x p
@@ -49,9 +49,9 @@ module _ (d p : ℕ) (low : d < p) where
       b : p * (m / p) + m % p ≡ m
       b = div-add-mod m p
 
-      by-case : ((x % p ≤ d) × (after d p x ≡ d + p * (x / p))) ⊎ ((d < x % p) × (after d p x ≡ d + p * (x / p + 1))) → after d p x ≤ m
-      by-case (inl k) = elim (dec_lt (m / p) (x / p)) [ yes l ↦ absurd (omega (arith, a, b, times p (m / p + 1) (x / p) (omega arith))) | no l ↦ omega (arith, b, k.1, times p (x / p) (m / p) (omega arith)) ]
-      by-case (inr k) = elim (dec_lt (x / p) (m / p)) [ yes l ↦ omega (arith, b, k.1, times p (x / p + 1) (m / p) (omega arith)) | no l ↦ absurd (omega (arith, a, b, k.0, times p (m / p) (x / p) (omega arith))) ]
+      by_case : ((x % p ≤ d) × (after d p x ≡ d + p * (x / p))) ⊎ ((d < x % p) × (after d p x ≡ d + p * (x / p + 1))) → after d p x ≤ m
+      by_case (inl k) = elim (dec_lt (m / p) (x / p)) [ yes l ↦ absurd (omega (arith, a, b, times p (m / p + 1) (x / p) (omega arith))) | no l ↦ omega (arith, b, k.1, times p (x / p) (m / p) (omega arith)) ]
+      by_case (inr k) = elim (dec_lt (x / p) (m / p)) [ yes l ↦ omega (arith, b, k.1, times p (x / p + 1) (m / p) (omega arith)) | no l ↦ absurd (omega (arith, a, b, k.0, times p (m / p) (x / p) (omega arith))) ]
 
 -- a connection that runs is one of the table's
 pub runs_known : (t : Table) (c : ℕ) → Runs t c → c < connections t

@@ -37,11 +37,11 @@ module _ (t : Table) (l : Lawful t) (s : ℕ) where
   leads_back i p n h = record { is = (labels t l s i p n).1 h.label; leads = λ j m k b. h.in_front j m k ((labels t l s j p m).0 b) }
 
   origin_to : (i p n q : ℕ) → Origin (ways t s) (Label (ways t s)) i p n q → IsOrigin t s i p n q
-  origin_to i p n q o = by-case o.from
+  origin_to i p n q o = by_case o.from
     where
-      by-case : From (ways t s) (Label (ways t s)) i p n q → IsOrigin t s i p n q
-      by-case (inl f) = inl f
-      by-case (inr (m, b, g)) = inr (record { minute = m; label = (labels t l s i q m).0 b; gives = g; highest = λ r k c h. o.highest r (inr (k, (labels t l s i r k).1 c, h)) })
+      by_case : From (ways t s) (Label (ways t s)) i p n q → IsOrigin t s i p n q
+      by_case (inl f) = inl f
+      by_case (inr (m, b, g)) = inr (record { minute = m; label = (labels t l s i q m).0 b; gives = g; highest = λ r k c h. o.highest r (inr (k, (labels t l s i r k).1 c, h)) })
 
   origin_back : (i p n q : ℕ) → IsOrigin t s i p n q → Origin (ways t s) (Label (ways t s)) i p n q
   origin_back i p n q (inl (f, e)) = record { from = inl (f, e); highest = highest }

@@ -83,25 +83,25 @@ module _ (t : Table) where
         let h = All-weaker (λ c. (c < k) × (leaves t s c ≡ true)) (λ c. (c < suc k) × (leaves t s c ≡ true)) (λ c p. (omega (arith, p.0), p.1)) (firsts_below t s k) (below_all k) in
         below_by (AllByRecursion (λ c. (c < suc k) × (leaves t s c ≡ true))) k (λ e. put_all t (λ c. (c < suc k) × (leaves t s c ≡ true)) k (firsts_below t s k) (omega arith, e) h) h
 
-    below-rise : (k : ℕ) → Rise (firsts_below t s k)
+    below_rise : (k : ℕ) → Rise (firsts_below t s k)
     unfolding firsts_below
-    below-rise zero = tt
-    below-rise (suc k) = below_by Rise k (λ _. put_rise k (firsts_below t s k) (All-weaker (λ c. (c < k) × (leaves t s c ≡ true)) (λ c. c < k) (λ c p. p.0) (firsts_below t s k) (below_all k)) (below-rise k)) (below-rise k)
+    below_rise zero = tt
+    below_rise (suc k) = below_by Rise k (λ _. put_rise k (firsts_below t s k) (All-weaker (λ c. (c < k) × (leaves t s c ≡ true)) (λ c. c < k) (λ c p. p.0) (firsts_below t s k) (below_all k)) (below_rise k)) (below_rise k)
 
-    below-among : (x k : ℕ) → x < k → leaves t s x ≡ true → Among x (firsts_below t s k)
+    below_among : (x k : ℕ) → x < k → leaves t s x ≡ true → Among x (firsts_below t s k)
     unfolding firsts_below
-    below-among x zero h e = absurd (omega arith)
-    below-among x (suc k) h e = by-case (cases_eq x k) (λ l. below-among x k l e)
+    below_among x zero h e = absurd (omega arith)
+    below_among x (suc k) h e = by_case (cases_eq x k) (λ l. below_among x k l e)
       where
-        by-case : (x ≡ k) ⊎ (x ≡ k → ⊥) → (x < k → Among x (firsts_below t s k)) → Among x (firsts_below t s (suc k))
-        by-case (inl q) b = subst (Among x) (sym (cond-true _ _ _ (rw q at e))) (rw q (put_own k (firsts_below t s k)))
-        by-case (inr q) b = let m = b (omega arith) in below_by (Among x) k (λ _. put_kept k x (firsts_below t s k) m) m
+        by_case : (x ≡ k) ⊎ (x ≡ k → ⊥) → (x < k → Among x (firsts_below t s k)) → Among x (firsts_below t s (suc k))
+        by_case (inl q) b = subst (Among x) (sym (cond-true _ _ _ (rw q at e))) (rw q (put_own k (firsts_below t s k)))
+        by_case (inr q) b = let m = b (omega arith) in below_by (Among x) k (λ _. put_kept k x (firsts_below t s k) m) m
 
     pub ordered : FirstsOrdered t s
     ordered = record {
       sound = λ i h. All-get_or (λ c. (c < connections t) × (leaves t s c ≡ true)) (firsts t s) i 0 h (below_all (connections t));
-      whole = λ c h e. place_of c (firsts t s) (below-among c (connections t) h e);
-      ordered = λ i j h k. rise_far (firsts t s) i j (below-rise (connections t)) h k;
+      whole = λ c h e. place_of c (firsts t s) (below_among c (connections t) h e);
+      ordered = λ i j h k. rise_far (firsts t s) i j (below_rise (connections t)) h k;
     }
 
     -- a rank's connection runs, and starts at the source

@@ -13,7 +13,7 @@ use Rattle.journeys.specs.Theorems.{ways}
 use Rattle.journeys.specs.Chosen.{moved, LeadingPair, Chosen, PairsChosen, PairsCover}
 use Rattle.journeys.proofs.Walk.{bridge}
 use Rattle.journeys.proofs.Firsts.{ordered, departing}
-use Rattle.journeys.proofs.Ways.{forward, early-at}
+use Rattle.journeys.proofs.Ways.{forward, early_at}
 use Rattle.journeys.proofs.Finished.{Met, met}
 use Rattle.journeys.proofs.Steps.{ends}
 use Rattle.journeys.proofs.Exactly.{running, exactly}
@@ -73,10 +73,10 @@ module _ (t : Table) (l : Lawful t) (s v : ℕ) (station : v < stations t) where
 
   -- a reached label of v is a pair
   pub reached_pair : (i n : ℕ) → Reaches t s i v n → Travels t s v (pos (leaving i)) (pos n)
-  reached_pair i n a = by-case a.comes
+  reached_pair i n a = by_case a.comes
     where
-      by-case : ((v ≡ (at t (last a.first a.rest).connection).end.0) × (arrival t (last a.first a.rest) ≡ pos n)) ⊎ ((v ≡ connection_place t (last a.first a.rest).connection) × ((last a.first a.rest).moment ≡ pos n)) → Travels t s v (pos (leaving i)) (pos n)
-      by-case (inl h) = record {
+      by_case : ((v ≡ (at t (last a.first a.rest).connection).end.0) × (arrival t (last a.first a.rest) ≡ pos n)) ⊎ ((v ≡ connection_place t (last a.first a.rest).connection) × ((last a.first a.rest).moment ≡ pos n)) → Travels t s v (pos (leaving i)) (pos n)
+      by_case (inl h) = record {
         first = a.first;
         rest = a.rest;
         is_itinerary = a.is_itinerary;
@@ -85,7 +85,7 @@ module _ (t : Table) (l : Lawful t) (s v : ℕ) (station : v < stations t) where
         departs = a.in_period ∙ ap (λ (c : ℕ). pos (at t c).departure) a.begins;
         arrives = h.1;
       }
-      by-case (inr h) = absurd (omega (arith, h.0))
+      by_case (inr h) = absurd (omega (arith, h.0))
 
   pub leading_travels : (d a : ℤ) → LeadingPair t s v d a → Travels t s v d a
   leading_travels d a h = rw (h.departs, h.arrives) (shift_travels t h.periods s v _ _ (reached_pair h.rank h.minute h.leads.label.reached))
@@ -107,17 +107,17 @@ module _ (t : Table) (l : Lawful t) (s v : ℕ) (station : v < stations t) where
       pub departs : x ≤ℤ moved t (leaving by.rank) periods
       pub arrives : moved t by.minute periods ≤ℤ y
 
-    pub settled-leads : (e : Entry) → Mem e done → e.place ≡ v → Leads t s e.rank v e.minute
-    settled-leads e m q = subst (λ (p : ℕ). Leads t s e.rank p e.minute) q ((exactly t l s done fin e).0 m).0
+    pub settled_leads : (e : Entry) → Mem e done → e.place ≡ v → Leads t s e.rank v e.minute
+    settled_leads e m q = subst (λ (p : ℕ). Leads t s e.rank p e.minute) q ((exactly t l s done fin e).0 m).0
 
     -- for a pair whose first ride, moved by −k periods, departs in the present period
-    found-now : (x y k : ℤ) (h : Travels t s v (x +ℤ neg_ℤ k *ℤ pos t.period) (y +ℤ neg_ℤ k *ℤ pos t.period)) → h.first.moment ≡ pos (at t h.first.connection).departure → Found x y
-    found-now x y k h now = record {
+    found_now : (x y k : ℤ) (h : Travels t s v (x +ℤ neg_ℤ k *ℤ pos t.period) (y +ℤ neg_ℤ k *ℤ pos t.period)) → h.first.moment ≡ pos (at t h.first.connection).departure → Found x y
+    found_now x y k h now = record {
       by = b.by;
       settled = b.settled;
       place = b.same;
       periods = k;
-      departs = omega (arith, ints, h.departs, now, ap (λ (c : ℕ). (at t c).departure) i.2, later_rank i.0 b.by.rank b.higher (settled-leads b.by b.settled b.same).label.reached.ranked, opposite k t.period);
+      departs = omega (arith, ints, h.departs, now, ap (λ (c : ℕ). (at t c).departure) i.2, later_rank i.0 b.by.rank b.higher (settled_leads b.by b.settled b.same).label.reached.ranked, opposite k t.period);
       arrives = omega (arith, ints, z.2, b.sooner, h.arrives, arrives_at, opposite k t.period);
     }
       where
@@ -143,7 +143,7 @@ module _ (t : Table) (l : Lawful t) (s v : ℕ) (station : v < stations t) where
         a = record { first = h.first; rest = h.rest; is_itinerary = h.is_itinerary; ranked = i.1; begins = sym i.2; in_period = now; comes = inl (sym h.ends, arrives_at) }
 
         z : (m : ℕ) × Path (ways t s) i.0 v m × (m ≤ n)
-        z = early-at t l s i.0 v n a
+        z = early_at t l s i.0 v n a
 
         b : Met (ways t s) (forward t l s) done fin i.0 v z.0
         b = met (ways t s) (forward t l s) done fin i.0 v z.0 z.1
@@ -156,7 +156,7 @@ module _ (t : Table) (l : Lawful t) (s v : ℕ) (station : v < stations t) where
     find x y h =
         let r = h.is_itinerary.0 in
         let k = r.periodic.0 in
-        found-now x y k (shift_travels t (neg_ℤ k) s v x y h) (back h.first.moment (at t h.first.connection).departure t.period k r.periodic.1)
+        found_now x y k (shift_travels t (neg_ℤ k) s v x y h) (back h.first.moment (at t h.first.connection).departure t.period k r.periodic.1)
 
   abbrev Cover : ℤ → ℤ → Type 0
   Cover x y = (d : ℤ) × (a : ℤ) × LeadingPair t s v d a × (x ≤ℤ d) × (a ≤ℤ y)
@@ -165,18 +165,18 @@ module _ (t : Table) (l : Lawful t) (s v : ℕ) (station : v < stations t) where
   covered x y h =
       let q = finished t l s in
       let f = find q.0 q.1 x y h in
-      (moved t (leaving f.by.rank) f.periods, moved t f.by.minute f.periods, record { rank = f.by.rank; minute = f.by.minute; periods = f.periods; leads = settled-leads q.0 q.1 f.by f.settled f.place; departs = refl; arrives = refl }, f.departs, f.arrives)
+      (moved t (leaving f.by.rank) f.periods, moved t f.by.minute f.periods, record { rank = f.by.rank; minute = f.by.minute; periods = f.periods; leads = settled_leads q.0 q.1 f.by f.settled f.place; departs = refl; arrives = refl }, f.departs, f.arrives)
 
   chosen : (d a : ℤ) → Unbeaten t s v d a → Chosen t s v d a
   chosen d a u = record { pair = pair' (covered d a u.travels); unbeaten = λ d' a' h b. u.unbeaten d' a' (leading_travels d' a' h) b }
     where
       pair' : Cover d a → LeadingPair t s v d a
-      pair' (x, y, p, h, k) = by-case (same_or_less d x h) (same_or_less y a k)
+      pair' (x, y, p, h, k) = by_case (same_or_less d x h) (same_or_less y a k)
         where
-          by-case : (d ≡ x) ⊎ (d <ℤ x) → (y ≡ a) ⊎ (y <ℤ a) → LeadingPair t s v d a
-          by-case (inl e) (inl f) = rw (e, ← f) p
-          by-case (inr e) q = absurd (u.unbeaten x y (leading_travels x y p) (record { no_earlier = h; no_later = k; differs = λ z. omega (arith, ints, z.0) }))
-          by-case (inl e) (inr f) = absurd (u.unbeaten x y (leading_travels x y p) (record { no_earlier = h; no_later = k; differs = λ z. omega (arith, ints, z.1) }))
+          by_case : (d ≡ x) ⊎ (d <ℤ x) → (y ≡ a) ⊎ (y <ℤ a) → LeadingPair t s v d a
+          by_case (inl e) (inl f) = rw (e, ← f) p
+          by_case (inr e) q = absurd (u.unbeaten x y (leading_travels x y p) (record { no_earlier = h; no_later = k; differs = λ z. omega (arith, ints, z.0) }))
+          by_case (inl e) (inr f) = absurd (u.unbeaten x y (leading_travels x y p) (record { no_earlier = h; no_later = k; differs = λ z. omega (arith, ints, z.1) }))
 
   unbeaten : (d a : ℤ) → Chosen t s v d a → Unbeaten t s v d a
   unbeaten d a c = record { travels = leading_travels d a c.pair; unbeaten = λ d' a' h b. none d' a' b (covered d' a' h) }

@@ -12,8 +12,8 @@ use Rattle.journeys.specs.Checked.{all_of, any_of}
 use Rattle.journeys.specs.Chosen.{moved}
 use Rattle.journeys.specs.Profiles.{leaving_of, next_of, next_arrival, unbeaten_in, Listed, ProfileSound, Among, pair_of, any_pair, all_pairs, ProfileChecked, ArrivalChecked}
 use Rattle.journeys.proofs.Clock.{after_least, leaves}
-use Rattle.journeys.proofs.Pairs.{opposite, same_or_less, shift_travels, reached_pair, Found, settled-leads, find, finished}
-use Rattle.journeys.proofs.Unbeaten.{moved_unbeaten, leaves-first, low-at, at_zero, travels-at}
+use Rattle.journeys.proofs.Pairs.{opposite, same_or_less, shift_travels, reached_pair, Found, settled_leads, find, finished}
+use Rattle.journeys.proofs.Unbeaten.{moved_unbeaten, leaves-first, low_at, at_zero, travels_at}
 use Rattle.journeys.proofs.Checking.{all_at, any_at, done}
 
 all_of_from : (p : Entry → Bool) (l : List Entry) → ((g : Entry) → Mem g l → p g ≡ true) → all_of p l ≡ true
@@ -26,18 +26,18 @@ module _ (t : Table) (l : Lawful t) (s v : ℕ) (station : v < stations t) (full
 
   -- an unbeaten pair is any pair that covers it
   same_pair : (d a x y : ℤ) → Unbeaten t s v d a → Travels t s v x y → d ≤ℤ x → y ≤ℤ a → (d ≡ x) × (y ≡ a)
-  same_pair d a x y u h hx hy = by-case (same_or_less d x hx) (same_or_less y a hy)
+  same_pair d a x y u h hx hy = by_case (same_or_less d x hx) (same_or_less y a hy)
     where
-      by-case : (d ≡ x) ⊎ (d <ℤ x) → (y ≡ a) ⊎ (y <ℤ a) → (d ≡ x) × (y ≡ a)
-      by-case (inl e) (inl f) = (e, f)
-      by-case (inr e) q = absurd (u.unbeaten x y h (record { no_earlier = hx; no_later = hy; differs = λ z. omega (arith, ints, z.0) }))
-      by-case (inl e) (inr f) = absurd (u.unbeaten x y h (record { no_earlier = hx; no_later = hy; differs = λ z. omega (arith, ints, z.1) }))
+      by_case : (d ≡ x) ⊎ (d <ℤ x) → (y ≡ a) ⊎ (y <ℤ a) → (d ≡ x) × (y ≡ a)
+      by_case (inl e) (inl f) = (e, f)
+      by_case (inr e) q = absurd (u.unbeaten x y h (record { no_earlier = hx; no_later = hy; differs = λ z. omega (arith, ints, z.0) }))
+      by_case (inl e) (inr f) = absurd (u.unbeaten x y h (record { no_earlier = hx; no_later = hy; differs = λ z. omega (arith, ints, z.1) }))
 
   -- an unbeaten pair is that of a settled label, moved by whole periods
   pub settled_by : (d a : ℤ) → Unbeaten t s v d a → (f : Found t l s v station full fin d a) × (d ≡ moved t (leaving f.by) f.periods) × (moved t f.by.minute f.periods ≡ a)
   settled_by d a u =
       let f = find t l s v station full fin d a u.travels in
-      let h = shift_travels t f.periods s v _ _ (reached_pair t l s v station f.by.rank f.by.minute (settled-leads t l s v station full fin f.by f.settled f.place).label.reached) in
+      let h = shift_travels t f.periods s v _ _ (reached_pair t l s v station f.by.rank f.by.minute (settled_leads t l s v station full fin f.by f.settled f.place).label.reached) in
       let e = same_pair d a _ _ u h f.departs f.arrives in
       (f, e.0, e.1)
 
@@ -69,7 +69,7 @@ module _ (t : Table) (l : Lawful t) (s v : ℕ) (station : v < stations t) (full
           e = f.by
 
           same : x ≡ leaving f.by
-          same = zero_periods x (leaving f.by) t.period f.periods lt (low-at t l s v station full fin f.by f.settled f.place) ex
+          same = zero_periods x (leaving f.by) t.period f.periods lt (low_at t l s v station full fin f.by f.settled f.place) ex
 
           arr : y ≡ pos f.by.minute
           arr = omega (arith, ints, ex, ey, same)
@@ -79,11 +79,11 @@ module _ (t : Table) (l : Lawful t) (s v : ℕ) (station : v < stations t) (full
             where
               one : g.place ≡ v → next_arrival t s f.by g ≤ f.by.minute → (next_of t s f.by g ≡ leaving f.by) × (next_arrival t s f.by g ≡ f.by.minute)
               one q h =
-                  let z = same_pair (pos x) y _ _ u (travels-at t l s v station full fin (leaving f.by) g m q) (omega (arith, ints, same)) (omega (arith, ints, arr)) in
+                  let z = same_pair (pos x) y _ _ u (travels_at t l s v station full fin (leaving f.by) g m q) (omega (arith, ints, same)) (omega (arith, ints, arr)) in
                   (omega (arith, ints, z.0, same), omega (arith, ints, z.1, arr))
 
   unlisted : (x : ℕ) (y : ℤ) → Listed t s v full x y → Unbeaten t s v (pos x) y
-  unlisted x y w = rw (w.departs, w.arrives) (record { travels = reached_pair t l s v station e.rank e.minute (settled-leads t l s v station full fin e w.in_it place).label.reached; unbeaten = none })
+  unlisted x y w = rw (w.departs, w.arrives) (record { travels = reached_pair t l s v station e.rank e.minute (settled_leads t l s v station full fin e w.in_it place).label.reached; unbeaten = none })
     where
       e : Entry
       e = w.by
@@ -99,7 +99,7 @@ module _ (t : Table) (l : Lawful t) (s v : ℕ) (station : v < stations t) (full
           let f = find t l s v station full fin d' a' h in
           let g = f.by in
           let lo = leaves-first t l s v station full fin g f.settled f.place in
-          let lw = low-at t l s v station full fin g f.settled f.place in
+          let lw = low_at t l s v station full fin g f.settled f.place in
           let z = at_zero t l s v station full fin (moved t (leaving g) f.periods) (leaving w.by) (omega (arith, ints, f.departs, b.no_earlier)) in
           let c : z.0 % t.period ≡ leaving g = leaves (leaving g) t.period z.0 lw f.periods (sym z.1) in
           let first : next_of t s w.by g ≤ z.0 = after_least (leaving g) t.period lw (leaving w.by) z.0 c z.2 in
@@ -118,7 +118,7 @@ periodic t l s v station d a u =
     let k = b.0.periods in
     let x = leaving_of t s e in
     let back : d +ℤ neg_ℤ k *ℤ pos t.period ≡ pos x = omega (arith, ints, b.1, opposite k t.period) in
-    (x, k, low-at t l s v station q.0 q.1 e b.0.settled b.0.place, b.1, subst (λ (z : ℤ). Unbeaten t s v z (a +ℤ neg_ℤ k *ℤ pos t.period)) back (moved_unbeaten t l s v station (neg_ℤ k) d a u))
+    (x, k, low_at t l s v station q.0 q.1 e b.0.settled b.0.place, b.1, subst (λ (z : ℤ). Unbeaten t s v z (a +ℤ neg_ℤ k *ℤ pos t.period)) back (moved_unbeaten t l s v station (neg_ℤ k) d a u))
 
 -- ---- lists of pairs
 

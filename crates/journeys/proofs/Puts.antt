@@ -61,15 +61,15 @@ module _ (t : Table) where
   by_length : (e : Entry) (c : ℕ) → length (leads_by t e c) ≤ one (eqb e.place (stations t + c)) + one (eqb e.place (stations t + c)) + one (eqb e.place (at t c).start.0)
   by_length e c =
       let r : length (ride_by t e c) ≡ one (eqb e.place (stations t + c)) = only-length (eqb e.place (stations t + c)) _ in
-      omega (arith, length-append (ride_by t e c) (stay_by t e c ++ change_by t e c), length-append (stay_by t e c) (change_by t e c), stay-length, change-length)
+      omega (arith, length-append (ride_by t e c) (stay_by t e c ++ change_by t e c), length-append (stay_by t e c) (change_by t e c), stay_length, change_length)
     where
-      stay-length : length (stay_by t e c) ≤ one (eqb e.place (stations t + c))
-      stay-length =
+      stay_length : length (stay_by t e c) ≤ one (eqb e.place (stations t + c))
+      stay_length =
           let q : length (stay_by t e c) ≡ one (eqb e.place (stations t + c) && ((at t (c + 1)).runs && eqb (at t c).train.0 (at t (c + 1)).train.0)) = only-length (eqb e.place (stations t + c) && ((at t (c + 1)).runs && eqb (at t c).train.0 (at t (c + 1)).train.0)) _ in
           omega (arith, one-and (eqb e.place (stations t + c)) ((at t (c + 1)).runs && eqb (at t c).train.0 (at t (c + 1)).train.0))
 
-      change-length : length (change_by t e c) ≤ one (eqb e.place (at t c).start.0)
-      change-length =
+      change_length : length (change_by t e c) ≤ one (eqb e.place (at t c).start.0)
+      change_length =
           let q : length (change_by t e c) ≡ one ((at t c).runs && eqb e.place (at t c).start.0) = only-length ((at t c).runs && eqb e.place (at t c).start.0) _ in
           omega (arith, one_and_right (at t c).runs (eqb e.place (at t c).start.0))
 

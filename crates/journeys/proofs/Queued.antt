@@ -81,18 +81,18 @@ module _ (t : Table) (l : Lawful t) (s : ℕ) (x : Entry) where
   changes_to c = (at t c).runs && eqb x.place (at t c).start.0
 
   next_in : (e : Entry) → Next (ways t s) x e → (c : ℕ) × (c < connections t) × Mem e (leads_by t x c)
-  next_in e n = by-case n.given
+  next_in e n = by_case n.given
     where
-      by-case : Gives t x.place x.minute e.place e.minute → (c : ℕ) × (c < connections t) × Mem e (leads_by t x c)
-      by-case (by_ride c r a b d) = (c, r, join_left _ (only_in (rides c) e (ride_of c) (eq-eqb _ _ a) (same d n.rank b n.origin)))
-      by-case (by_stay c k f r a b d) = (
+      by_case : Gives t x.place x.minute e.place e.minute → (c : ℕ) × (c < connections t) × Mem e (leads_by t x c)
+      by_case (by_ride c r a b d) = (c, r, join_left _ (only_in (rides c) e (ride_of c) (eq-eqb _ _ a) (same d n.rank b n.origin)))
+      by_case (by_stay c k f r a b d) = (
         c,
         omega (arith, f.next, f.there),
         join_right (only (rides c) (ride_of c)) (join_left _ (only_in (stays_on c) e (stay_of c)
             (and_from _ _ (eq-eqb _ _ a) (and_from _ _ (subst (λ (y : ℕ). (at t y).runs ≡ true) f.next r) (eq-eqb _ _ (f.same_train ∙ ap (λ (y : ℕ). (at t y).train.0) f.next))))
             (same (d ∙ ap (λ (y : ℕ). x.minute + (at t c).ride + stand t c y) f.next) n.rank (b ∙ ap (λ (y : ℕ). stations t + y) f.next) n.origin))),
       )
-      by-case (by_change c k r a b d) = (c, k, join_right (only (rides c) (ride_of c)) (join_right (only (stays_on c) (stay_of c)) (only_in (changes_to c) e (change_of c) (and_from _ _ r (eq-eqb _ _ a)) (same d n.rank b n.origin))))
+      by_case (by_change c k r a b d) = (c, k, join_right (only (rides c) (ride_of c)) (join_right (only (stays_on c) (stay_of c)) (only_in (changes_to c) e (change_of c) (and_from _ _ r (eq-eqb _ _ a)) (same d n.rank b n.origin))))
 
   next_is : (e f : Entry) → e ≡ f → f.rank ≡ x.rank → f.origin ≡ x.place → Gives t x.place x.minute f.place f.minute → Next (ways t s) x e
   next_is e f q r o g = subst (Next (ways t s) x) (sym q) (record { given = g; rank = r; origin = o })

@@ -10,7 +10,7 @@ use Rattle.journeys.proofs.Firsts.{ordered}
 use Rattle.journeys.proofs.Ways.{forward, labels}
 use Rattle.journeys.proofs.Bounds.{small}
 use Rattle.journeys.proofs.Exactly.{running}
-use Rattle.journeys.proofs.Small.{small-settled, small-next, few-settled, inside-settled, inside-next}
+use Rattle.journeys.proofs.Small.{small_settled, small_next, few_settled, inside_settled, inside_next}
 
 module _ (t : Table) (l : Lawful t) where
   ahead_low : (a b : ℕ) → ahead t.period a b ≤ 10079
@@ -45,8 +45,8 @@ pub search_small : SearchSmall
 search_small t l s done queue h =
     let b = bounded t l s in
     record {
-      settled = λ e m. (omega (arith, small-settled (ways t s) (ranks t s) (places t) 20159 10079 b h e m, size t l), (inside-settled (ways t s) (ranks t s) (places t) 20159 10079 b h e m).0, (inside-settled (ways t s) (ranks t s) (places t) 20159 10079 b h e m).1);
-      queued = λ e m. (omega (arith, small-next (ways t s) (ranks t s) (places t) 20159 10079 b h e m, size t l), (inside-next (ways t s) (ranks t s) (places t) 20159 10079 b h e m).0, (inside-next (ways t s) (ranks t s) (places t) 20159 10079 b h e m).1);
+      settled = λ e m. (omega (arith, small_settled (ways t s) (ranks t s) (places t) 20159 10079 b h e m, size t l), (inside_settled (ways t s) (ranks t s) (places t) 20159 10079 b h e m).0, (inside_settled (ways t s) (ranks t s) (places t) 20159 10079 b h e m).1);
+      queued = λ e m. (omega (arith, small_next (ways t s) (ranks t s) (places t) 20159 10079 b h e m, size t l), (inside_next (ways t s) (ranks t s) (places t) 20159 10079 b h e m).0, (inside_next (ways t s) (ranks t s) (places t) 20159 10079 b h e m).1);
       once = (running t l s h).apart.single;
-      few = few-settled (ways t s) (ranks t s) (places t) 20159 10079 b h;
+      few = few_settled (ways t s) (ranks t s) (places t) 20159 10079 b h;
     }

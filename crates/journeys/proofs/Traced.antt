@@ -14,7 +14,7 @@ use Rattle.journeys.specs.Theorems.{ways}
 use Rattle.journeys.specs.Theorems.{SettledExactly}
 use Rattle.journeys.specs.Trace.{Chain, from, back, rides_of, Tells, depth, extended, legs_of, OriginsTell}
 use Rattle.journeys.proofs.Clock.{times, departs_pos, pos_departs, runs_known}
-use Rattle.journeys.proofs.Walk.{low, snoc, snoc-last, stood}
+use Rattle.journeys.proofs.Walk.{low, snoc, snoc_last, stood}
 use Rattle.journeys.proofs.Firsts.{departing}
 use Rattle.journeys.proofs.Ways.{forward, next-first}
 use Rattle.journeys.proofs.Steps.{ends as finished_so}
@@ -44,11 +44,11 @@ module _ (t : Table) (l : Lawful t) (s : ℕ) where
     run : Departs t z
     run = last-departs h.first h.rest h.is_itinerary.0 h.is_itinerary.1
 
-    at-connection : (c : ℕ) → g.place ≡ stations t + c → (z.connection ≡ c) × (z.moment ≡ pos g.minute)
-    at-connection c p = elim h.comes [ inl k ↦ absurd (omega (arith, k.0, (l.each z.connection run.known).end_known)) | inr k ↦ (omega (arith, k.0), k.1) ]
+    at_connection : (c : ℕ) → g.place ≡ stations t + c → (z.connection ≡ c) × (z.moment ≡ pos g.minute)
+    at_connection c p = elim h.comes [ inl k ↦ absurd (omega (arith, k.0, (l.each z.connection run.known).end_known)) | inr k ↦ (omega (arith, k.0), k.1) ]
 
-    at-station : g.place < stations t → (g.place ≡ (at t z.connection).end.0) × (arrival t z ≡ pos g.minute)
-    at-station p = elim h.comes [ inl k ↦ k | inr k ↦ absurd (omega (arith, k.0)) ]
+    at_station : g.place < stations t → (g.place ≡ (at t z.connection).end.0) × (arrival t z ≡ pos g.minute)
+    at_station p = elim h.comes [ inl k ↦ k | inr k ↦ absurd (omega (arith, k.0)) ]
 
     -- one more ride
     add : (e : Entry) (es : List Entry) (c : ℕ) → gs ≡ rides_of t es → g.rank ≡ e.rank → e.place ≡ stations t + c → Departs t (ride c e.minute) → Stays t z (ride c e.minute) ⊎ Changes t z (ride c e.minute) → Tells t s e (rides_of t (e ∷ es))
@@ -59,7 +59,7 @@ module _ (t : Table) (l : Lawful t) (s : ℕ) where
       is_itinerary = (h.is_itinerary.0, snoc t l 0 0 h.first h.rest x h.is_itinerary.1 d f);
       begins = rw r at h.begins;
       in_period = rw r at h.in_period;
-      comes = inr (rw (snoc-last t l 0 0 h.first h.rest x) p, rw (snoc-last t l 0 0 h.first h.rest x) refl);
+      comes = inr (rw (snoc_last t l 0 0 h.first h.rest x) p, rw (snoc_last t l 0 0 h.first h.rest x) refl);
     }
       where
         x : Ride
@@ -89,7 +89,7 @@ module _ (t : Table) (l : Lawful t) (s : ℕ) where
   tells_on : (e g : Entry) (es : List Entry) → g.rank ≡ e.rank → Gives t g.place g.minute e.place e.minute → Tells t s g (rides_of t es) → Tells t s e (rides_of t (e ∷ es))
   tells_on e g es r (by_ride c k a b n) h =
       let y = last h.first h.rest in
-      let w = at-connection g (rides_of t es) h c a in
+      let w = at_connection g (rides_of t es) h c a in
       record {
         first = h.first;
         rest = h.rest;
@@ -101,12 +101,12 @@ module _ (t : Table) (l : Lawful t) (s : ℕ) where
       }
   tells_on e g es r (by_stay c d f runs a b n) h =
       let y = last h.first h.rest in
-      let w = at-connection g (rides_of t es) h c a in
+      let w = at_connection g (rides_of t es) h c a in
       add g (rides_of t es) h e es d refl r b
       (pos_departs t d e.minute runs (ap (λ (x : ℕ). x % t.period) n ∙ stood t l c d g.minute f.there (mod_of y c g.minute (run g (rides_of t es) h) w.0 w.1)))
       (inl (as_ride (λ x. Stays t x (ride d e.minute)) y c g.minute w.0 w.1 (record { aboard = f; stands = ap pos n })))
   tells_on e g es r (by_change c k runs a b n) h =
-      let w = at-station g (rides_of t es) h (omega (arith, (l.each c k).start_known)) in
+      let w = at_station g (rides_of t es) h (omega (arith, (l.each c k).start_known)) in
       let f = next-first t l c k (g.minute + transfer t g.place) in
       add g (rides_of t es) h e es c refl r b
       (pos_departs t c e.minute runs (ap (λ (x : ℕ). x % t.period) n ∙ f.0))
@@ -157,16 +157,16 @@ module _ (t : Table) (l : Lawful t) (s : ℕ) where
 
   -- a change over a station is never a stay: the connection left would be a higher origin
   no_disguise : (done : List Entry) (x : SettledExactly t s done) (e g h : Entry) (c d : ℕ) → Mem e done → Mem h done → h.rank ≡ e.rank → h.place ≡ stations t + c → e.place ≡ stations t + d → e.origin ≡ g.place → g.place < stations t → Runs t d → Stays t (ride c h.minute) (ride d e.minute) → ⊥
-  no_disguise done x e g h c d me mh r pc pd o k runs st = by-case ((x e).0 me).1
+  no_disguise done x e g h c d me mh r pc pd o k runs st = by_case ((x e).0 me).1
     where
-      minute-of : pos e.minute ≡ pos h.minute +ℤ pos (at t c).ride +ℤ pos (stand t c d) → e.minute ≡ h.minute + (at t c).ride + stand t c d
-      minute-of q = omega (arith, ints)
+      minute_of : pos e.minute ≡ pos h.minute +ℤ pos (at t c).ride +ℤ pos (stand t c d) → e.minute ≡ h.minute + (at t c).ride + stand t c d
+      minute_of q = omega (arith, ints)
 
-      by-case : IsOrigin t s e.rank e.place e.minute e.origin → ⊥
-      by-case (inl f) = omega (arith, f.1, l.stations_high)
-      by-case (inr f) =
+      by_case : IsOrigin t s e.rank e.place e.minute e.origin → ⊥
+      by_case (inl f) = omega (arith, f.1, l.stations_high)
+      by_case (inr f) =
           let lb : IsLabel t s e.rank h.place h.minute = subst (λ (i : ℕ). IsLabel t s i h.place h.minute) r ((x h).0 mh).0.label in
-          omega (arith, f.highest h.place h.minute lb (by_stay c d st.aboard runs pc pd (minute-of st.stands)))
+          omega (arith, f.highest h.place h.minute lb (by_stay c d st.aboard runs pc pd (minute_of st.stands)))
 
   module _ (done : List Entry) (x : SettledExactly t s done) where
     -- the settled entry of the last ride z, which arrives where g is
@@ -184,32 +184,32 @@ module _ (t : Table) (l : Lawful t) (s : ℕ) where
       legs : Legs t tale.first tale.rest (legs_of t es)
       left : e.place < stations t → Left e (last tale.first tale.rest)
 
-    tale-first : (e : Entry) → IsFirstRide t s e.rank e.place e.minute → Tale e (e ∷ [])
+    tale_first : (e : Entry) → IsFirstRide t s e.rank e.place e.minute → Tale e (e ∷ [])
     unfolding tells_first
-    tale-first e f = record {
+    tale_first e f = record {
       tale = tells_first e f;
       legs = subst (Legs t (ride (rank_connection t s e.rank) e.minute) []) (sym (legs_first e (rank_connection t s e.rank) f.place)) (ends (rank_connection t s e.rank) e.minute);
       left = λ k. absurd (omega (arith, f.place));
     }
 
-    tale-on : (e g : Entry) (es : List Entry) (r : g.rank ≡ e.rank) → Gives t g.place g.minute e.place e.minute → Mem e done → Mem g done → g.place ≡ e.origin → Tale g (g ∷ es) → Tale e (e ∷ g ∷ es)
+    tale_on : (e g : Entry) (es : List Entry) (r : g.rank ≡ e.rank) → Gives t g.place g.minute e.place e.minute → Mem e done → Mem g done → g.place ≡ e.origin → Tale g (g ∷ es) → Tale e (e ∷ g ∷ es)
     unfolding tells_on add
-    tale-on e g es r (by_ride c k a b n) me mg o T =
-        let w = at-connection g (rides_of t (g ∷ es)) T.tale c a in
+    tale_on e g es r (by_ride c k a b n) me mg o T =
+        let w = at_connection g (rides_of t (g ∷ es)) T.tale c a in
         record {
           tale = tells_on e g (g ∷ es) r (by_ride c k a b n) T.tale;
           legs = subst (Legs t T.tale.first T.tale.rest) (sym (legs_at_station e (g ∷ es) (omega (arith, (l.each c k).end_known)))) T.legs;
           left = λ _. record { h = g; c = c; settled = mg; rank = r; place = a; is = λ i. record { connection = w.0 i; moment = w.1 i } };
         }
-    tale-on e g es r (by_stay c d f runs a b n) me mg o T =
-        let w = at-connection g (rides_of t (g ∷ es)) T.tale c a in
+    tale_on e g es r (by_stay c d f runs a b n) me mg o T =
+        let w = at_connection g (rides_of t (g ∷ es)) T.tale c a in
         record {
           tale = tells_on e g (g ∷ es) r (by_stay c d f runs a b n) T.tale;
           legs = subst (Legs t T.tale.first (T.tale.rest ++ (ride d e.minute ∷ []))) (sym (legs_aboard e g es d b (omega arith)))
               (legs_stay d e.minute T.legs (as_ride (λ y. Stays t y (ride d e.minute)) (last T.tale.first T.tale.rest) c g.minute w.0 w.1 (record { aboard = f; stands = ap pos n })));
           left = λ k. absurd (omega arith);
         }
-    tale-on e g es r (by_change c k runs a b n) me mg o T =
+    tale_on e g es r (by_change c k runs a b n) me mg o T =
         let low-g : g.place < stations t = omega (arith, (l.each c k).start_known) in
         let q = T.left low-g in
         record {
@@ -219,17 +219,17 @@ module _ (t : Table) (l : Lawful t) (s : ℕ) where
           left = λ z. absurd (omega arith);
         }
 
-    chain-settled : (e : Entry) (es : List Entry) → Chain t s done e es → Mem e done
-    chain-settled e es (from _ m f o) = m
-    chain-settled e es (back _ g gs m r p k h c) = m
+    chain_settled : (e : Entry) (es : List Entry) → Chain t s done e es → Mem e done
+    chain_settled e es (from _ m f o) = m
+    chain_settled e es (back _ g gs m r p k h c) = m
 
-    tale-of : (e : Entry) (es : List Entry) → Chain t s done e es → Tale e es
-    tale-of e es (from _ m f o) = tale-first e f
-    tale-of e es (back _ g gs m r p k h c) = with-head gs c (tale-of g gs c)
+    tale_of : (e : Entry) (es : List Entry) → Chain t s done e es → Tale e es
+    tale_of e es (from _ m f o) = tale_first e f
+    tale_of e es (back _ g gs m r p k h c) = with_head gs c (tale_of g gs c)
       where
-        with-head : (gs : List Entry) → Chain t s done g gs → Tale g gs → Tale e (e ∷ gs)
-        with-head gs (from _ m' f o) T = tale-on e g [] r h m m' p T
-        with-head gs (back _ g' gy m' r' p' k' h' c') T = tale-on e g gy r h m m' p T
+        with_head : (gs : List Entry) → Chain t s done g gs → Tale g gs → Tale e (e ∷ gs)
+        with_head gs (from _ m' f o) T = tale_on e g [] r h m m' p T
+        with_head gs (back _ g' gy m' r' p' k' h' c') T = tale_on e g gy r h m m' p T
 
   -- the chain, by the depth that falls
   deeper : (a b N p q : ℕ) → a ≤ b → (a ≡ b → p < q) → p < N → a * N + p < b * N + q
@@ -256,5 +256,5 @@ pub origins_tell : OriginsTell
 origins_tell t l s done st e m =
     let d = finished_so (ways t s) (forward t l s) done (running t l s st) in
     let c = chain t l s done d (depth t e + 1) e m (omega arith) in
-    let w = tale-of t l s done (exactly t l s done d) e c.0 c.1 in
+    let w = tale_of t l s done (exactly t l s done d) e c.0 c.1 in
     record { entries = c.0; chain = c.1; tells = w.tale; legs = w.legs }

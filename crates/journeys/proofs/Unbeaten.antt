@@ -13,7 +13,7 @@ use Rattle.journeys.proofs.Walk.{low}
 use Rattle.journeys.proofs.Firsts.{ordered}
 use Rattle.journeys.proofs.Ways.{labels}
 use Rattle.journeys.proofs.Exactly.{not_before}
-use Rattle.journeys.proofs.Pairs.{distribute, opposite, shift_travels, reached_pair, Found, settled-leads, find, finished}
+use Rattle.journeys.proofs.Pairs.{distribute, opposite, shift_travels, reached_pair, Found, settled_leads, find, finished}
 
 -- of the entries of a list that pass a test, one with the least value
 record Least (p : Entry → Bool) (f : Entry → ℕ) (l : List Entry) : Type 0 where
@@ -74,21 +74,21 @@ module _ (t : Table) (l : Lawful t) (s v : ℕ) (station : v < stations t) where
 
   module _ (done : List Entry) (fin : Done (ways t s) done) where
     -- how long a settled label travels
-    abbrev pub length-of : Entry → ℕ
-    length-of e = e.minute - leaving e
+    abbrev pub length_of : Entry → ℕ
+    length_of e = e.minute - leaving e
 
     pub leaves-first : (e : Entry) → Mem e done → e.place ≡ v → leaving e ≤ e.minute
-    leaves-first e m q = not_before t l s e.rank ((labels t l s e.rank v e.minute).1 (settled-leads t l s v station done fin e m q).label).reached
+    leaves-first e m q = not_before t l s e.rank ((labels t l s e.rank v e.minute).1 (settled_leads t l s v station done fin e m q).label).reached
 
-    pub low-at : (e : Entry) → Mem e done → e.place ≡ v → leaving e < t.period
-    low-at e m q = low t l (rank_connection t s e.rank) ((ordered t s).sound e.rank (settled-leads t l s v station done fin e m q).label.reached.ranked).0
+    pub low_at : (e : Entry) → Mem e done → e.place ≡ v → leaving e < t.period
+    low_at e m q = low t l (rank_connection t s e.rank) ((ordered t s).sound e.rank (settled_leads t l s v station done fin e m q).label.reached.ranked).0
 
     -- its first departure at or after minute n, and the arrival then
     abbrev pub next : ℕ → Entry → ℕ
     next n e = after (leaving e) t.period n
 
     abbrev pub covers : ℕ → ℕ → Entry → Bool
-    covers n m e = eqb e.place v && leb (next n e + length-of e) m
+    covers n m e = eqb e.place v && leb (next n e + length_of e) m
 
     pub at_zero : (x : ℤ) (n : ℕ) → pos n ≤ℤ x → (m : ℕ) × (x ≡ pos m) × (n ≤ m)
     at_zero (pos m) n h = (m, refl, omega (arith, ints))
@@ -99,47 +99,47 @@ module _ (t : Table) (l : Lawful t) (s v : ℕ) (station : v < stations t) where
     passes n m x y hx hy f =
         let e = f.by in
         let lo = leaves-first e f.settled f.place in
-        let lw = low-at e f.settled f.place in
+        let lw = low_at e f.settled f.place in
         let z = at_zero (moved t (leaving e) f.periods) n (omega (arith, ints, f.departs)) in
         let c : z.0 % t.period ≡ leaving e = leaves (leaving e) t.period z.0 lw f.periods (sym z.1) in
         let first : next n e ≤ z.0 = after_least (leaving e) t.period lw n z.0 c z.2 in
         and_from _ _ (eq-eqb _ _ f.place) (le-leb _ _ (omega (arith, ints, z.1, f.arrives)))
 
     -- the pair of a settled label at its first departure from n on
-    pub travels-at : (n : ℕ) (e : Entry) → Mem e done → e.place ≡ v → Travels t s v (pos (next n e)) (pos (next n e + length-of e))
-    travels-at n e m q = by-case (after_is (leaving e) t.period (low-at e m q) n)
+    pub travels_at : (n : ℕ) (e : Entry) → Mem e done → e.place ≡ v → Travels t s v (pos (next n e)) (pos (next n e + length_of e))
+    travels_at n e m q = by_case (after_is (leaving e) t.period (low_at e m q) n)
       where
-        so : (j : ℕ) → next n e ≡ leaving e + t.period * j → Travels t s v (pos (next n e)) (pos (next n e + length-of e))
+        so : (j : ℕ) → next n e ≡ leaving e + t.period * j → Travels t s v (pos (next n e)) (pos (next n e + length_of e))
         so j h =
             let lo = leaves-first e m q in
             let d : pos (leaving e) +ℤ pos j *ℤ pos t.period ≡ pos (next n e) = ap pos (omega arith) in
-            let a : pos e.minute +ℤ pos j *ℤ pos t.period ≡ pos (next n e + length-of e) = ap pos (omega arith) in
-            rw (d, a) at (shift_travels t (pos j) s v (pos (leaving e)) (pos e.minute) (reached_pair t l s v station e.rank e.minute (settled-leads t l s v station done fin e m q).label.reached))
+            let a : pos e.minute +ℤ pos j *ℤ pos t.period ≡ pos (next n e + length_of e) = ap pos (omega arith) in
+            rw (d, a) at (shift_travels t (pos j) s v (pos (leaving e)) (pos e.minute) (reached_pair t l s v station e.rank e.minute (settled_leads t l s v station done fin e m q).label.reached))
 
-        by-case : ((n % t.period ≤ leaving e) × (next n e ≡ leaving e + t.period * (n / t.period))) ⊎ ((leaving e < n % t.period) × (next n e ≡ leaving e + t.period * (n / t.period + 1))) → Travels t s v (pos (next n e)) (pos (next n e + length-of e))
-        by-case (inl h) = so (n / t.period) h.1
-        by-case (inr h) = so (n / t.period + 1) h.1
+        by_case : ((n % t.period ≤ leaving e) × (next n e ≡ leaving e + t.period * (n / t.period))) ⊎ ((leaving e < n % t.period) × (next n e ≡ leaving e + t.period * (n / t.period + 1))) → Travels t s v (pos (next n e)) (pos (next n e + length_of e))
+        by_case (inl h) = so (n / t.period) h.1
+        by_case (inr h) = so (n / t.period + 1) h.1
 
     abbrev Cover : ℕ → ℕ → Type 0
-    Cover n m = (e : Entry) × Mem e done × (e.place ≡ v) × Unbeaten t s v (pos (next n e)) (pos (next n e + length-of e)) × (n ≤ next n e) × (next n e + length-of e ≤ m)
+    Cover n m = (e : Entry) × Mem e done × (e.place ≡ v) × Unbeaten t s v (pos (next n e)) (pos (next n e + length_of e)) × (n ≤ next n e) × (next n e + length_of e ≤ m)
 
     cover : (n m : ℕ) → Travels t s v (pos n) (pos m) → Cover n m
-    cover n m h = by-case (least (covers n m) length-of done)
+    cover n m h = by_case (least (covers n m) length_of done)
       where
         f : Found t l s v station done fin (pos n) (pos m)
         f = find t l s v station done fin (pos n) (pos m) h
 
-        by-case : Least (covers n m) length-of done ⊎ ((g : Entry) → Mem g done → covers n m g ≡ true → ⊥) → Cover n m
-        by-case (inr none) = absurd (none f.by f.settled (passes n m (pos n) (pos m) (omega (arith, ints)) (omega (arith, ints)) f))
-        by-case (inl b) = (b.e, b.in_it, place, record { travels = travels-at n b.e b.in_it place; unbeaten = none }, omega arith, fits)
+        by_case : Least (covers n m) length_of done ⊎ ((g : Entry) → Mem g done → covers n m g ≡ true → ⊥) → Cover n m
+        by_case (inr none) = absurd (none f.by f.settled (passes n m (pos n) (pos m) (omega (arith, ints)) (omega (arith, ints)) f))
+        by_case (inl b) = (b.e, b.in_it, place, record { travels = travels_at n b.e b.in_it place; unbeaten = none }, omega arith, fits)
           where
             place : b.e.place ≡ v
             place = eqb-true _ _ (and_parts (eqb b.e.place v) _ b.passes).0
 
-            fits : next n b.e + length-of b.e ≤ m
+            fits : next n b.e + length_of b.e ≤ m
             fits = leb-true _ _ (and_parts (eqb b.e.place v) _ b.passes).1
 
-            none : (d' a' : ℤ) → Travels t s v d' a' → Beats d' a' (pos (next n b.e)) (pos (next n b.e + length-of b.e)) → ⊥
+            none : (d' a' : ℤ) → Travels t s v d' a' → Beats d' a' (pos (next n b.e)) (pos (next n b.e + length_of b.e)) → ⊥
             none d' a' h' w =
                 let g = find t l s v station done fin d' a' h' in
                 let lo = leaves-first g.by g.settled g.place in
@@ -192,27 +192,27 @@ module _ (t : Table) (l : Lawful t) (s v : ℕ) (station : v < stations t) where
       m = at_zero q.0 q.1 (y +ℤ pos (lift x) *ℤ pos t.period) nx.0 (omega (arith, ints, nx.1, f.departs, f.arrives, leaves-first q.0 q.1 f.by f.settled f.place))
 
       on : Cover q.0 q.1 nx.0 m.0 → Covered x y
-      on (e, in_it, place, u, lo, hi) = by-case (after_is (leaving e) t.period (low-at q.0 q.1 e in_it place) nx.0)
+      on (e, in_it, place, u, lo, hi) = by_case (after_is (leaving e) t.period (low_at q.0 q.1 e in_it place) nx.0)
         where
           so : (j : ℕ) → next q.0 q.1 nx.0 e ≡ leaving e + t.period * j → Covered x y
           so j w = record {
             departs = pos (next q.0 q.1 nx.0 e) +ℤ neg_ℤ (pos (lift x)) *ℤ pos t.period;
-            arrives = pos (next q.0 q.1 nx.0 e + length-of q.0 q.1 e) +ℤ neg_ℤ (pos (lift x)) *ℤ pos t.period;
+            arrives = pos (next q.0 q.1 nx.0 e + length_of q.0 q.1 e) +ℤ neg_ℤ (pos (lift x)) *ℤ pos t.period;
             from = leaving e;
             periods = pos j +ℤ neg_ℤ (pos (lift x));
-            early = low-at q.0 q.1 e in_it place;
-            is = omega (arith, ints, w, distribute-by (pos j) (neg_ℤ (pos (lift x))));
+            early = low_at q.0 q.1 e in_it place;
+            is = omega (arith, ints, w, distribute_by (pos j) (neg_ℤ (pos (lift x))));
             unbeaten = moved_unbeaten (neg_ℤ (pos (lift x))) _ _ u;
             no_earlier = omega (arith, ints, nx.1, lo, opposite (pos (lift x)) t.period);
             no_later = omega (arith, ints, m.1, hi, opposite (pos (lift x)) t.period);
           }
             where
-              distribute-by : (a b : ℤ) → (a +ℤ b) *ℤ pos t.period ≡ a *ℤ pos t.period +ℤ b *ℤ pos t.period
-              distribute-by a b = distribute a b t.period
+              distribute_by : (a b : ℤ) → (a +ℤ b) *ℤ pos t.period ≡ a *ℤ pos t.period +ℤ b *ℤ pos t.period
+              distribute_by a b = distribute a b t.period
 
-          by-case : ((nx.0 % t.period ≤ leaving e) × (next q.0 q.1 nx.0 e ≡ leaving e + t.period * (nx.0 / t.period))) ⊎ ((leaving e < nx.0 % t.period) × (next q.0 q.1 nx.0 e ≡ leaving e + t.period * (nx.0 / t.period + 1))) → Covered x y
-          by-case (inl w) = so (nx.0 / t.period) w.1
-          by-case (inr w) = so (nx.0 / t.period + 1) w.1
+          by_case : ((nx.0 % t.period ≤ leaving e) × (next q.0 q.1 nx.0 e ≡ leaving e + t.period * (nx.0 / t.period))) ⊎ ((leaving e < nx.0 % t.period) × (next q.0 q.1 nx.0 e ≡ leaving e + t.period * (nx.0 / t.period + 1))) → Covered x y
+          by_case (inl w) = so (nx.0 / t.period) w.1
+          by_case (inr w) = so (nx.0 / t.period + 1) w.1
 
 pub unbeaten_cover : UnbeatenCover
 unbeaten_cover t l s v k d a h = let c = cover_all t l s v k d a h in (c.departs, c.arrives, c.unbeaten, c.no_earlier, c.no_later)
@@ -228,7 +228,7 @@ pub first_unbeaten : FirstUnbeaten
 first_unbeaten t l s v k n d a u late first d' a' h hn =
     let c = cover_all t l s v k d' a' h in
     let sooner = first c.departs c.arrives c.unbeaten (omega (arith, ints, c.no_earlier)) in
-    by-case c sooner (or_later a c.arrives)
+    by_case c sooner (or_later a c.arrives)
   where
     or_later : (x y : ℤ) → (x ≤ℤ y) ⊎ (y <ℤ x)
     or_later (pos x) (pos y) = elim (cases_lt y x) [ inl lt ↦ inr (omega (arith, ints)) | inr ge ↦ inl (omega (arith, ints)) ]
@@ -236,6 +236,6 @@ first_unbeaten t l s v k n d a u late first d' a' h hn =
     or_later (negsuc x) (pos y) = inl (omega (arith, ints))
     or_later (negsuc x) (negsuc y) = elim (cases_lt x y) [ inl lt ↦ inr (omega (arith, ints)) | inr ge ↦ inl (omega (arith, ints)) ]
 
-    by-case : (c : Covered t l s v k d' a') → d ≤ℤ c.departs → (a ≤ℤ c.arrives) ⊎ (c.arrives <ℤ a) → a ≤ℤ a'
-    by-case c sooner (inl w) = omega (arith, ints, c.no_later)
-    by-case c sooner (inr w) = absurd (u.unbeaten c.departs c.arrives c.unbeaten.travels (record { no_earlier = sooner; no_later = omega (arith, ints); differs = λ z. omega (arith, ints, z.1) }))
+    by_case : (c : Covered t l s v k d' a') → d ≤ℤ c.departs → (a ≤ℤ c.arrives) ⊎ (c.arrives <ℤ a) → a ≤ℤ a'
+    by_case c sooner (inl w) = omega (arith, ints, c.no_later)
+    by_case c sooner (inr w) = absurd (u.unbeaten c.departs c.arrives c.unbeaten.travels (record { no_earlier = sooner; no_later = omega (arith, ints); differs = λ z. omega (arith, ints, z.1) }))

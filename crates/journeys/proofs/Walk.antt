@@ -20,15 +20,15 @@ module _ (t : Table) (l : Lawful t) where
       ∙ after-departs (at t e).departure t.period (low e k) ((at t c).departure + (at t c).ride)
 
   module _ (f b : ℕ) where
-    pub reach-runs : {c n : ℕ} → Reach t f b c n → Runs t c
-    reach-runs (first r e) = r
-    reach-runs (stay h r _) = r
-    reach-runs (change h r _ _ _) = r
+    pub reach_runs : {c n : ℕ} → Reach t f b c n → Runs t c
+    reach_runs (first r e) = r
+    reach_runs (stay h r _) = r
+    reach_runs (change h r _ _ _) = r
 
-    pub reach-departs : {c n : ℕ} → Reach t f b c n → n % t.period ≡ (at t c).departure
-    reach-departs (first r e) = e
-    reach-departs (stay {c} {e} {n} h r a) = stood c e n (runs_known t e r) (reach-departs h)
-    reach-departs (change h r _ e _) = e
+    pub reach_departs : {c n : ℕ} → Reach t f b c n → n % t.period ≡ (at t c).departure
+    reach_departs (first r e) = e
+    reach_departs (stay {c} {e} {n} h r a) = stood c e n (runs_known t e r) (reach_departs h)
+    reach_departs (change h r _ e _) = e
 
     -- from the itinerary
     abbrev Reached : Ride → Type 0
@@ -57,9 +57,9 @@ module _ (t : Table) (l : Lawful t) where
     snoc r [] s i d h = (d, h, tt)
     snoc r (x ∷ rs) s i d h = (i.0, i.1, snoc x rs s i.2 d h)
 
-    pub snoc-last : (r : Ride) (rs : List Ride) (s : Ride) → last r (rs ++ (s ∷ [])) ≡ s
-    snoc-last r [] s = refl
-    snoc-last r (x ∷ rs) s = snoc-last x rs s
+    pub snoc_last : (r : Ride) (rs : List Ride) (s : Ride) → last r (rs ++ (s ∷ [])) ≡ s
+    snoc_last r [] s = refl
+    snoc_last r (x ∷ rs) s = snoc_last x rs s
 
     abbrev pub ride : ℕ → ℕ → Ride
     ride c n = record { connection = c; moment = pos n }
@@ -68,12 +68,12 @@ module _ (t : Table) (l : Lawful t) where
     extend z s j d h = record {
       rest = j.rest ++ (s ∷ []);
       itinerary = (j.itinerary.0, snoc (ride f b) j.rest s j.itinerary.1 d (rw j.ends h));
-      ends = snoc-last (ride f b) j.rest s;
+      ends = snoc_last (ride f b) j.rest s;
     }
 
     travel : {c n : ℕ} → Reach t f b c n → Journey t f b (ride c n)
     travel (first r e) = record { rest = []; itinerary = (pos_departs t f b r e, tt); ends = refl }
-    travel (stay {c} {e} {n} h r a) = extend (ride c n) (ride e (n + (at t c).ride + stand t c e)) (travel h) (pos_departs t e _ r (stood c e n (runs_known t e r) (reach-departs h))) (inl (record { aboard = a; stands = refl }))
+    travel (stay {c} {e} {n} h r a) = extend (ride c n) (ride e (n + (at t c).ride + stand t c e)) (travel h) (pos_departs t e _ r (stood c e n (runs_known t e r) (reach_departs h))) (inl (record { aboard = a; stands = refl }))
     travel (change {c} {d} {n} {m} h r k e a) = extend (ride c n) (ride d m) (travel h) (pos_departs t d m r e) (inr (record { meets = k; in_time = omega (arith, ints) }))
 
     there : (z : Ride) → Journey t f b z → Reached z

@@ -8,7 +8,7 @@ use Rattle.journeys.specs.Search.{Path, begin, go, Label, Forward}
 use Rattle.journeys.specs.Paths.{opening_ride, Journey, Reach, first, stay, change}
 use Rattle.journeys.specs.Theorems.{ways, NextFirst, GivesMonotone}
 use Rattle.journeys.proofs.Clock.{after-departs, after_least, runs_known}
-use Rattle.journeys.proofs.Walk.{bridge, low, reach-runs}
+use Rattle.journeys.proofs.Walk.{bridge, low, reach_runs}
 use Rattle.journeys.proofs.Firsts.{ordered, departing}
 
 pub next-first : NextFirst
@@ -49,7 +49,7 @@ module _ (t : Table) (l : Lawful t) where
     same {f} {b} {m} q c c' a e h = let z : c' ≡ c = omega arith in rw z at h
 
     known : (i c : ℕ) {m : ℕ} → Reach t (rank_connection t s i) (at t (rank_connection t s i)).departure c m → LawfulConnection t (at t c)
-    known i c h = l.each c (runs_known t c (reach-runs t l (rank_connection t s i) (at t (rank_connection t s i)).departure h))
+    known i c h = l.each c (runs_known t c (reach_runs t l (rank_connection t s i) (at t (rank_connection t s i)).departure h))
 
     late : (q m c c' k : ℕ) → c < connections t → q ≡ (at t c').end.0 → m ≡ k + (at t c').ride → k + (at t c').ride + transfer t (at t c').end.0 ≤ next_departure t c (m + transfer t q)
     late q m c c' k r e f = rw (← e, ← f) (next-first t l c r (m + transfer t q)).1
@@ -74,7 +74,7 @@ module _ (t : Table) (l : Lawful t) where
     Comes p n z = ((p ≡ (at t z.connection).end.0) × (arrival t z ≡ pos n)) ⊎ ((p ≡ connection_place t z.connection) × (z.moment ≡ pos n))
 
     pub reached : (i p n : ℕ) → Path (ways t s) i p n → Reaches t s i p n
-    reached i p n h = by-case (walked i p n h)
+    reached i p n h = by_case (walked i p n h)
       where
         so : (z : Ride) → Journey t (rank_connection t s i) (at t (rank_connection t s i)).departure z → Comes p n z → Reaches t s i p n
         so z j c = record {
@@ -87,9 +87,9 @@ module _ (t : Table) (l : Lawful t) where
           comes = subst (Comes p n) (sym j.ends) c;
         }
 
-        by-case : Walked i p n → Reaches t s i p n
-        by-case (inl (c, e, r)) = so (record { connection = c; moment = pos n }) ((bridge t l (rank_connection t s i) (at t (rank_connection t s i)).departure (record { connection = c; moment = pos n })).1 (n, refl, r)) (inr (e, refl))
-        by-case (inr (c, m, e, f, r)) = so (record { connection = c; moment = pos m }) ((bridge t l (rank_connection t s i) (at t (rank_connection t s i)).departure (record { connection = c; moment = pos m })).1 (m, refl, r)) (inl (e, ap pos (sym f)))
+        by_case : Walked i p n → Reaches t s i p n
+        by_case (inl (c, e, r)) = so (record { connection = c; moment = pos n }) ((bridge t l (rank_connection t s i) (at t (rank_connection t s i)).departure (record { connection = c; moment = pos n })).1 (n, refl, r)) (inr (e, refl))
+        by_case (inr (c, m, e, f, r)) = so (record { connection = c; moment = pos m }) ((bridge t l (rank_connection t s i) (at t (rank_connection t s i)).departure (record { connection = c; moment = pos m })).1 (m, refl, r)) (inl (e, ap pos (sym f)))
 
     -- a path of ways as early as a path of rides
     Early : ℕ → ℕ → ℕ → Type 0
@@ -114,11 +114,11 @@ module _ (t : Table) (l : Lawful t) where
         let v = (at t c).end.0 in
         let y = runs_known t d r in
         weaker i (stations t + d) (next_departure t d (n + (at t c).ride + transfer t v)) m ((next-first t l d y (n + (at t c).ride + transfer t v)).2 m f a)
-        (on i v (n + (at t c).ride) (stations t + d) (next_departure t d (n + (at t c).ride + transfer t v)) (arrived i c n (early i k h) (runs_known t c (reach-runs t l (rank_connection t s i) (at t (rank_connection t s i)).departure h))) (by_change d y r (sym e) refl refl))
+        (on i v (n + (at t c).ride) (stations t + d) (next_departure t d (n + (at t c).ride + transfer t v)) (arrived i c n (early i k h) (runs_known t c (reach_runs t l (rank_connection t s i) (at t (rank_connection t s i)).departure h))) (by_change d y r (sym e) refl refl))
 
-    pub early-at : (i p n : ℕ) → Reaches t s i p n → (m : ℕ) × Path (ways t s) i p m × (m ≤ n)
+    pub early_at : (i p n : ℕ) → Reaches t s i p n → (m : ℕ) × Path (ways t s) i p m × (m ≤ n)
     unfolding Early
-    early-at i p n a = by-case (subst (λ r. Comes p n (last r a.rest)) opens a.comes)
+    early_at i p n a = by_case (subst (λ r. Comes p n (last r a.rest)) opens a.comes)
       where
         f : ℕ
         f = rank_connection t s i
@@ -138,23 +138,23 @@ module _ (t : Table) (l : Lawful t) where
         e : Early i (stations t + c) w.0
         e = early i a.ranked w.2
 
-        by-case : Comes p n (last (opening_ride t (rank_connection t s i)) a.rest) → (m : ℕ) × Path (ways t s) i p m × (m ≤ n)
-        by-case (inl (g, h)) =
-            let y = arrived i c w.0 e (runs_known t c (reach-runs t l (rank_connection t s i) (at t (rank_connection t s i)).departure w.2)) in
+        by_case : Comes p n (last (opening_ride t (rank_connection t s i)) a.rest) → (m : ℕ) × Path (ways t s) i p m × (m ≤ n)
+        by_case (inl (g, h)) =
+            let y = arrived i c w.0 e (runs_known t c (reach_runs t l (rank_connection t s i) (at t (rank_connection t s i)).departure w.2)) in
             (y.0, subst (λ (v : ℕ). Path (ways t s) i v y.0) (sym g) y.1, omega (arith, ints, y.2, w.1, h))
-        by-case (inr (g, h)) = (e.0, subst (λ (v : ℕ). Path (ways t s) i v e.0) (sym g) e.1, omega (arith, ints, e.2, w.1, h))
+        by_case (inr (g, h)) = (e.0, subst (λ (v : ℕ). Path (ways t s) i v e.0) (sym g) e.1, omega (arith, ints, e.2, w.1, h))
 
     pub labels : (i p n : ℕ) → Label (ways t s) i p n ↔ IsLabel t s i p n
     labels i p n = (to, from)
       where
         to : Label (ways t s) i p n → IsLabel t s i p n
-        to b = record { reached = reached i p n b.reached; earliest = λ m a. let z = early-at i p m a in omega (arith, b.least z.0 z.1, z.2) }
+        to b = record { reached = reached i p n b.reached; earliest = λ m a. let z = early_at i p m a in omega (arith, b.least z.0 z.1, z.2) }
 
         from : IsLabel t s i p n → Label (ways t s) i p n
         from b = record { reached = rw same-minute at z.1; least = least' }
           where
             z : (m : ℕ) × Path (ways t s) i p m × (m ≤ n)
-            z = early-at i p n b.reached
+            z = early_at i p n b.reached
 
             least' : (m : ℕ) → Path (ways t s) i p m → n ≤ m
             least' m h = b.earliest m (reached i p m h)

@@ -12,14 +12,14 @@ use Rattle.journeys.proofs.Sizes.{search_small}
 
 -- of two entries one comes before the other
 pub either : (a b : Entry) → Before a b ⊎ Before b a
-either a b = by-minute (cases_order a.minute b.minute)
+either a b = by_minute (cases_order a.minute b.minute)
   where
-    by-origin : a.minute ≡ b.minute → a.rank ≡ b.rank → a.place ≡ b.place → (a.origin < b.origin) ⊎ (b.origin ≤ a.origin) → Before a b ⊎ Before b a
-    by-origin m r p (inl h) = inr (omega arith)
-    by-origin m r p (inr h) = inl (omega arith)
+    by_origin : a.minute ≡ b.minute → a.rank ≡ b.rank → a.place ≡ b.place → (a.origin < b.origin) ⊎ (b.origin ≤ a.origin) → Before a b ⊎ Before b a
+    by_origin m r p (inl h) = inr (omega arith)
+    by_origin m r p (inr h) = inl (omega arith)
 
     by_place : a.minute ≡ b.minute → a.rank ≡ b.rank → (a.place ≡ b.place) ⊎ ((a.place < b.place) ⊎ (b.place < a.place)) → Before a b ⊎ Before b a
-    by_place m r (inl p) = by-origin m r p (cases_lt a.origin b.origin)
+    by_place m r (inl p) = by_origin m r p (cases_lt a.origin b.origin)
     by_place m r (inr (inl h)) = inl (omega arith)
     by_place m r (inr (inr h)) = inr (omega arith)
 
@@ -28,10 +28,10 @@ either a b = by-minute (cases_order a.minute b.minute)
     by_rank m (inr (inl h)) = inr (omega arith)
     by_rank m (inr (inr h)) = inl (omega arith)
 
-    by-minute : (a.minute ≡ b.minute) ⊎ ((a.minute < b.minute) ⊎ (b.minute < a.minute)) → Before a b ⊎ Before b a
-    by-minute (inl m) = by_rank m (cases_order a.rank b.rank)
-    by-minute (inr (inl h)) = inl (omega arith)
-    by-minute (inr (inr h)) = inr (omega arith)
+    by_minute : (a.minute ≡ b.minute) ⊎ ((a.minute < b.minute) ⊎ (b.minute < a.minute)) → Before a b ⊎ Before b a
+    by_minute (inl m) = by_rank m (cases_order a.rank b.rank)
+    by_minute (inr (inl h)) = inl (omega arith)
+    by_minute (inr (inr h)) = inr (omega arith)
 
 -- the least entry of a queue
 record Least (queue : List Entry) : Type 0 where
@@ -113,14 +113,14 @@ module _ (t : Table) (l : Lawful t) (s : ℕ) where
     less : todo done' queue' < todo done queue
 
   went : (done : List Entry) (y : Entry) (ys : List Entry) → State (ways t s) done (y ∷ ys) → Went done (y ∷ ys)
-  went done y ys st = by-case (top done h.x)
+  went done y ys st = by_case (top done h.x)
     where
       h : Least (y ∷ ys)
       h = least y ys
 
-      by-case : ((g : Entry) × Mem g done × (g.place ≡ h.x.place) × (h.x.rank ≤ g.rank)) ⊎ ((g : Entry) → Mem g done → g.place ≡ h.x.place → g.rank < h.x.rank) → Went done (y ∷ ys)
-      by-case (inl (g, m, p, r)) = record { done' = done; queue' = h.rest; state = then st (skip h.x g h.takes m p r); less = omega (arith, h.shorter) }
-      by-case (inr f) = record { done' = done ++ (h.x ∷ []); queue' = leads t h.x ++ h.rest; state = st'; less = rw (length-append done (h.x ∷ []), length-append (leads t h.x) h.rest, add-one) (less_left (ranks t s * places t) (length done) (connections t * 3) (length (y ∷ ys)) (length h.rest) (length (leads t h.x)) (omega (arith, length-append done (h.x ∷ []), (search_small t l s (done ++ (h.x ∷ [])) (leads t h.x ++ h.rest) st').few)) (leads-length t h.x) h.shorter) }
+      by_case : ((g : Entry) × Mem g done × (g.place ≡ h.x.place) × (h.x.rank ≤ g.rank)) ⊎ ((g : Entry) → Mem g done → g.place ≡ h.x.place → g.rank < h.x.rank) → Went done (y ∷ ys)
+      by_case (inl (g, m, p, r)) = record { done' = done; queue' = h.rest; state = then st (skip h.x g h.takes m p r); less = omega (arith, h.shorter) }
+      by_case (inr f) = record { done' = done ++ (h.x ∷ []); queue' = leads t h.x ++ h.rest; state = st'; less = rw (length-append done (h.x ∷ []), length-append (leads t h.x) h.rest, add-one) (less_left (ranks t s * places t) (length done) (connections t * 3) (length (y ∷ ys)) (length h.rest) (length (leads t h.x)) (omega (arith, length-append done (h.x ∷ []), (search_small t l s (done ++ (h.x ∷ [])) (leads t h.x ++ h.rest) st').few)) (leads-length t h.x) h.shorter) }
         where
           st' : State (ways t s) (done ++ (h.x ∷ [])) (leads t h.x ++ h.rest)
           st' = then st (settle h.x h.takes f (leads-put t l s h.x h.rest))

@@ -113,24 +113,24 @@ module _ (t : Table) (b : Book) (memory rest : List Label) (slots : List Notice)
     stands : Stands (in_force t b) b.source (Some x) (memory ++ rest)
     stands = subst (λ (o : Option Standing). Stands (in_force t b) b.source o (memory ++ rest)) is a.search
 
-    pub arrive-line : (n : ℕ) (r : Result (ℕ × ℕ) Refusal) → Arrived (noticed t (found slots)) x.source.0 x.rows memory v n r
+    pub arrive_line : (n : ℕ) (r : Result (ℕ × ℕ) Refusal) → Arrived (noticed t (found slots)) x.source.0 x.rows memory v n r
         → (Rows (noticed t (found slots)) x.source.0 memory → x.rows ≡ ranks (noticed t (found slots)) x.source.0 → ArriveTold (noticed t (found slots)) x.source.0 memory v n r)
         → ArriveLine t b memory v n r
-    arrive-line n r p q =
+    arrive_line n r p q =
         line t b memory rest slots x (λ u s m. Arrived u s m memory v n r) (λ u s. ArriveTold u s memory v n r) p q (λ u s short h. arrive_short u s v memory short n r h) b.source _ a.says stands
 
-    pub profile-line : (out out' : List Pair) (r : Result ℕ Refusal) → Profiled (noticed t (found slots)) x.source.0 x.rows memory v out r out'
+    pub profile_line : (out out' : List Pair) (r : Result ℕ Refusal) → Profiled (noticed t (found slots)) x.source.0 x.rows memory v out r out'
         → (Rows (noticed t (found slots)) x.source.0 memory → x.rows ≡ ranks (noticed t (found slots)) x.source.0 → ProfileTold (noticed t (found slots)) x.source.0 memory v out r out')
         → ProfileLine t b memory v out r out'
-    profile-line out out' r p q = (
+    profile_line out out' r p q = (
       profile_length (noticed t (found slots)) x.source.0 x.rows v memory out out' r p,
       line t b memory rest slots x (λ u s m. Profiled u s m memory v out r out') (λ u s. ProfileTold u s memory v out r out') p q (λ u s short h. profile_short u s v memory short out out' r h) b.source _ a.says stands,
     )
 
-    pub journey-line : (n : ℕ) (out out' : List Leg) (r : Result ℕ Refusal) → Journeyed (noticed t (found slots)) x.source.0 x.rows memory v n out r out'
+    pub journey_line : (n : ℕ) (out out' : List Leg) (r : Result ℕ Refusal) → Journeyed (noticed t (found slots)) x.source.0 x.rows memory v n out r out'
         → (Rows (noticed t (found slots)) x.source.0 memory → x.rows ≡ ranks (noticed t (found slots)) x.source.0 → JourneyTold (noticed t (found slots)) x.source.0 memory v n out r out')
         → JourneyLine t b memory v n out r out'
-    journey-line n out out' r p q = (
+    journey_line n out out' r p q = (
       journey_length (noticed t (found slots)) x.source.0 x.rows v memory n out out' r p,
       line t b memory rest slots x (λ u s m. Journeyed u s m memory v n out r out') (λ u s. JourneyTold u s memory v n out r out') p q (λ u s short h. journey_short u s v memory short n out out' r h) b.source _ a.says stands,
     )

@@ -86,15 +86,15 @@ apart-set xs i n l one others z a b h = go (two a i) (two b i)
   where
     clash : (k : ℕ) → k ≢ i → names n z ≡ true → names (get_or (set xs i n) k empty) z ≡ true → ⊥
     clash k m p q =
-        let t : n.train.0 ≡ z = train-of (stands n.report) p in
+        let t : n.train.0 ≡ z = train_of (stands n.report) p in
         let q' : names (get_or xs k empty) z ≡ true = sym (ap (λ x. names x z) (get_or-set_other xs i k n empty m)) ∙ q in
         let f : names (get_or xs k empty) z ≡ false = ap (names (get_or xs k empty)) (sym t) ∙ others k m in
         let c : true ≡ false = sym q' ∙ f in
         let zz : ◌≡◌ {A = ℕ} 0 1 = cc in omega arith
       where
-        train-of : (b : Bool) → (b && eqb n.train.0 z) ≡ true → n.train.0 ≡ z
-        train-of true e = eqb-true n.train.0 z e
-        train-of false e = let zz : ◌≡◌ {A = ℕ} 0 1 = cc in absurd (omega arith)
+        train_of : (b : Bool) → (b && eqb n.train.0 z) ≡ true → n.train.0 ≡ z
+        train_of true e = eqb-true n.train.0 z e
+        train_of false e = let zz : ◌≡◌ {A = ℕ} 0 1 = cc in absurd (omega arith)
 
     here : (k : ℕ) → k ≡ i → names (get_or (set xs i n) k empty) z ≡ true → names n z ≡ true
     here k e p = sym (ap (λ q. names (get_or (set xs i n) q empty) z) e ∙ ap (λ x. names x z) (get_or-set_same xs i n empty l)) ∙ p

@@ -22,8 +22,8 @@ module _ (t : Table) (q n p n' c : ℕ) (x : Connection) (is : x ≡ at t c) whe
       (λ f d i j b m. f (m ∙ ap (λ (y : ℕ). n + y) (ap (λ (y : ℕ). (at t y).ride) (let s : d ≡ c = omega arith in s) ∙ sym l)))
 
   module _ (h : c < connections t) (e : q ≡ connection_place t c) (z : Connection) (next : z ≡ at t (c + 1)) where
-    pub stay-decided : (r s : ℕ) → p < places t → p ≡ q + 1 → z.train.0 ≡ x.train.0 → z.runs ≡ true → r ≡ x.ride → s ≡ ahead t.period (x.departure + r) z.departure → MatchBool (eqb n' (n + r + s)) (Gives t q n p n') (NoStay t q n p n')
-    stay-decided r s b k train runs f g =
+    pub stay_decided : (r s : ℕ) → p < places t → p ≡ q + 1 → z.train.0 ≡ x.train.0 → z.runs ≡ true → r ≡ x.ride → s ≡ ahead t.period (x.departure + r) z.departure → MatchBool (eqb n' (n + r + s)) (Gives t q n p n') (NoStay t q n p n')
+    stay_decided r s b k train runs f g =
         let ride : r ≡ (at t c).ride = f ∙ ap (λ (y : Connection). y.ride) is in
         let waits : s ≡ stand t c (c + 1) = rw (← ride, ← is, ← next) g in
         let sum : n + r + s ≡ n + (at t c).ride + stand t c (c + 1) = ap (λ (y : ℕ). n + y + s) ride ∙ ap (λ (y : ℕ). n + (at t c).ride + y) waits in
@@ -37,8 +37,8 @@ module _ (t : Table) (q n p n' c : ℕ) (x : Connection) (is : x ≡ at t c) whe
         u ((rw (y, w) at m) ∙ sym sum))
 
   module _ (h : c < connections t) (e : p ≡ connection_place t c) where
-    pub change-decided : (k w : ℕ) → q ≡ x.start.0 → x.runs ≡ true → k ≡ transfer t x.start.0 → w ≡ ahead t.period (n + k) x.departure → MatchBool (eqb n' ((n + k) + w)) (Gives t q n p n') (NoChange t q n p n')
-    change-decided k w starts runs f g =
+    pub change_decided : (k w : ℕ) → q ≡ x.start.0 → x.runs ≡ true → k ≡ transfer t x.start.0 → w ≡ ahead t.period (n + k) x.departure → MatchBool (eqb n' ((n + k) + w)) (Gives t q n p n') (NoChange t q n p n')
+    change_decided k w starts runs f g =
         let wait : k ≡ transfer t q = f ∙ ap (transfer t) (sym starts) in
         let waits : w ≡ ahead t.period (n + transfer t q) (at t c).departure = rw (← wait, ← is) g in
         let sum : (n + k) + w ≡ next_departure t c (n + transfer t q) = ap (λ (y : ℕ). (n + y) + w) wait ∙ ap (λ (y : ℕ). (n + transfer t q) + y) waits in

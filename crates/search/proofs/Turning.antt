@@ -8,7 +8,7 @@ use Rattle.entries.specs.declared.label.LabelEntry.{LabelEntry}
 use Rattle.turns.specs.Cells.{cell_at, Settled}
 use Rattle.turns.specs.Running.{memory_needed, Turn}
 use Rattle.turns.specs.Theorems.{First, with_label, Settling}
-use Rattle.turns.proofs.Departures.{memory-small}
+use Rattle.turns.proofs.Departures.{memory_small}
 use Rattle.turns.proofs.Openings.{row_end}
 use Rattle.turns.proofs.Turns.{first_small, drop_keeps, settle_keeps, end_gives_rows, few_written}
 use Rattle.search.specs.declared.plan.Plan.{Plan}
@@ -24,28 +24,28 @@ module _ (t : Table) (law : Lawful t) (plan : Plan) (planned : Planned t plan) w
   product = ap (λ (z : ℕ). z * (plan.places + 1)) planned.departures ∙ ap (λ (z : ℕ). ranks t plan.source.0 * (z + 1)) planned.places
 
   pub memory_fits : (n : ℕ) → memory_needed t plan.source.0 ≤ n → Fits plan n
-  memory_fits n h = record { long = omega (arith, product); small = omega (arith, product, memory-small t plan.source.0 law) }
+  memory_fits n h = record { long = omega (arith, product); small = omega (arith, product, memory_small t plan.source.0 law) }
 
   module _ {room : ℕ} {before memory : List Label} {queue : List LabelEntry} {written : ℕ} (turn : Turn t plan.source.0 room before memory queue written) where
     -- the count fits 32 bits
     pub count_small : written ≤ 300000000
-    count_small = omega (arith, few_written t plan.source.0 room before memory queue written turn, less, memory-small t plan.source.0 law)
+    count_small = omega (arith, few_written t plan.source.0 room before memory queue written turn, less, memory_small t plan.source.0 law)
       where
         less : ranks t plan.source.0 * places t ≤ memory_needed t plan.source.0
         less = omega arith
 
-    pub now-fits : Fits plan (length memory)
-    now-fits = memory_fits (length memory) turn.long
+    pub now_fits : Fits plan (length memory)
+    now_fits = memory_fits (length memory) turn.long
 
     module _ {x : LabelEntry} {rest : List LabelEntry} (taken : queue ≡ x ∷ rest) where
       turn' : Turn t plan.source.0 room before memory (x ∷ rest) written
       turn' = subst (λ (q : List LabelEntry). Turn t plan.source.0 room before memory q written) taken turn
 
-      pub minute-small : x.minute < 400000000
-      minute-small = (first_small t law plan.source.0 room before memory x rest written turn').0
+      pub minute_small : x.minute < 400000000
+      minute_small = (first_small t law plan.source.0 room before memory x rest written turn').0
 
-      pub rank-inside : x.rank.0 < plan.departures
-      rank-inside = omega (arith, (first_small t law plan.source.0 room before memory x rest written turn').1, planned.departures)
+      pub rank_inside : x.rank.0 < plan.departures
+      rank_inside = omega (arith, (first_small t law plan.source.0 room before memory x rest written turn').1, planned.departures)
 
       pub place_inside : x.place.0 < plan.places
       place_inside = omega (arith, (first_small t law plan.source.0 room before memory x rest written turn').2, planned.places)

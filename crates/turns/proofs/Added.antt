@@ -21,8 +21,8 @@ module _ {X : Type 0} (ahead : X → X → Bool) where
 
   module _ {Q : Type 0} (ordered : Q → Type 0) (bag : Q → List X) (room : Q → ℕ) where
     -- first b, then a
-    pub grown-then : (a b : List X) (q r s : Q) → Grown ahead ordered bag room b q r → Grown ahead ordered bag room a r s → Grown ahead ordered bag room (a ++ b) q s
-    grown-then a b q r s g h = record { in_order = h.in_order; same_room = h.same_room ∙ g.same_room; holds = h.holds ∙ ap (put_all ahead a) g.holds ∙ sym (put_all_append a b (bag q)) }
+    pub grown_then : (a b : List X) (q r s : Q) → Grown ahead ordered bag room b q r → Grown ahead ordered bag room a r s → Grown ahead ordered bag room (a ++ b) q s
+    grown_then a b q r s g h = record { in_order = h.in_order; same_room = h.same_room ∙ g.same_room; holds = h.holds ∙ ap (put_all ahead a) g.holds ∙ sym (put_all_append a b (bag q)) }
 
   pub inserted-length : (e : X) (q : List X) → length (inserted ahead e q) ≡ suc (length q)
   unfolding inserted

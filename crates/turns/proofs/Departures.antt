@@ -34,15 +34,15 @@ module _ (t : Table) where
     unfolding firsts_below
     no_more c e = rw add-one (cond-false (leaves t s c) (listed (sooner t) c (firsts_below t s c)) (firsts_below t s c) e)
 
-    pub departure-length : (c : ℕ) → length (firsts_below t s (c + 1)) ≡ length (departure_by t s c) + length (firsts_below t s c)
-    departure-length c = ⊎_elim
+    pub departure_length : (c : ℕ) → length (firsts_below t s (c + 1)) ≡ length (departure_by t s c) + length (firsts_below t s c)
+    departure_length c = ⊎_elim
         (λ e. omega (arith, ap length (more c e), listed_length c (firsts_below t s c), ap length (cond-true (leaves t s c) (board_entry t c ∷ []) [] e)))
         (λ e. omega (arith, ap length (no_more c e), ap length (cond-false (leaves t s c) (board_entry t c ∷ []) [] e)))
         (cases_Bool (leaves t s c))
 
-    pub boarded-more : (c : ℕ) → put_all board_ahead (departure_by t s c) (map (board_entry t) (firsts_below t s c)) ≡ map (board_entry t) (firsts_below t s (c + 1))
+    pub boarded_more : (c : ℕ) → put_all board_ahead (departure_by t s c) (map (board_entry t) (firsts_below t s c)) ≡ map (board_entry t) (firsts_below t s (c + 1))
     unfolding put_all
-    boarded-more c = ⊎_elim
+    boarded_more c = ⊎_elim
         (λ e. ap (λ z. put_all board_ahead z (map (board_entry t) (firsts_below t s c))) (cond-true (leaves t s c) (board_entry t c ∷ []) [] e) ∙ boarded c (firsts_below t s c) ∙ sym (ap (map (board_entry t)) (more c e)))
         (λ e. ap (λ z. put_all board_ahead z (map (board_entry t) (firsts_below t s c))) (cond-false (leaves t s c) (board_entry t c ∷ []) [] e) ∙ sym (ap (map (board_entry t)) (no_more c e)))
         (cases_Bool (leaves t s c))
@@ -53,19 +53,19 @@ module _ (t : Table) where
     up_to : (c : ℕ) → length (firsts_below t s c) ≤ c
     unfolding firsts_below
     up_to zero = omega arith
-    up_to (suc c) = omega (arith, ap (λ (k : ℕ). length (firsts_below t s k)) (add-one c), departure-length c, one_at_most c, up_to c)
+    up_to (suc c) = omega (arith, ap (λ (k : ℕ). length (firsts_below t s k)) (add-one c), departure_length c, one_at_most c, up_to c)
 
     rises : (a b : ℕ) → a ≤ b → length (firsts_below t s a) ≤ length (firsts_below t s b)
     rises a zero h = let z : a ≡ 0 = omega arith in rw z (omega arith)
-    rises a (suc b) h = elim (cases_eq a (suc b)) [ inl e ↦ rw e (omega arith) | inr e ↦ rw (← add-one b) (omega (arith, departure-length b, rises a b (omega arith))) ]
+    rises a (suc b) h = elim (cases_eq a (suc b)) [ inl e ↦ rw e (omega arith) | inr e ↦ rw (← add-one b) (omega (arith, departure_length b, rises a b (omega arith))) ]
 
     -- a board with room for the first departures has room for the next
     pub board_fits : (c n : ℕ) → c < connections t → ranks t s ≤ n → length (departure_by t s c) + length (firsts_below t s c) ≤ n
-    board_fits c n h k = omega (arith, departure-length c, rises (c + 1) (connections t) (omega arith))
+    board_fits c n h k = omega (arith, departure_length c, rises (c + 1) (connections t) (omega arith))
 
     module _ (law : Lawful t) where
-      pub ranks-few : ranks t s ≤ 16384
-      ranks-few = omega (arith, up_to (connections t), law.connections_high)
+      pub ranks_few : ranks t s ≤ 16384
+      ranks_few = omega (arith, up_to (connections t), law.connections_high)
 
-      pub memory-small : memory_needed t s ≤ 16384 * 17409
-      memory-small = mul-le (ranks t s) (places t + 1) 16384 17409 ranks-few (omega (arith, law.connections_high, law.stations_high))
+      pub memory_small : memory_needed t s ≤ 16384 * 17409
+      memory_small = mul-le (ranks t s) (places t + 1) 16384 17409 ranks_few (omega (arith, law.connections_high, law.stations_high))

@@ -66,11 +66,11 @@ module _ (t : Table) (law : Lawful t) (s : ℕ) (before : List Label) where
     split : first ∷ board' ≡ board_entry t (rank_connection t s rank) ∷ map (board_entry t) (drop (rank + 1) (firsts t s))
     split = sym taken ∙ o.on_board ∙ ap (map (board_entry t)) (drop_more (firsts t s) rank 0 rank_below)
 
-    first-is : first ≡ board_entry t (rank_connection t s rank)
-    first-is = let z = split in cc
+    first_is : first ≡ board_entry t (rank_connection t s rank)
+    first_is = let z = split in cc
 
-    rest-is : board' ≡ map (board_entry t) (drop (rank + 1) (firsts t s))
-    rest-is = let z = split in cc
+    rest_is : board' ≡ map (board_entry t) (drop (rank + 1) (firsts t s))
+    rest_is = let z = split in cc
 
     pub has_room : (room : ℕ) → queue_needed t s ≤ room → length queue < room
     has_room room h = omega (arith, queue_length queue rank o.queued, rank_below, mul-le (ranks t s) 1 (ranks t s) (3 * connections t + 1) (omega arith) (omega arith))
@@ -78,20 +78,20 @@ module _ (t : Table) (law : Lawful t) (s : ℕ) (before : List Label) where
     module _ (memory' : List Label) (queue' : List LabelEntry)
         (opened : RowOpened (width t) rank (record { minute = first.minute; origin = first.connection.0 }) memory memory')
         (put : queue' ≡ put_all label_ahead (waiting (entry first.minute rank (stations t + first.connection.0) nowhere) ∷ []) queue) where
-      pub opens-more : Opening t s before memory' board' queue' (rank + 1)
-      opens-more = record {
+      pub opens_more : Opening t s before memory' board' queue' (rank + 1)
+      opens_more = record {
         below = omega (arith, rank_below);
-        on_board = rest-is;
+        on_board = rest_is;
         queued = queued';
         long = omega (arith, o.long, opened.same_length);
-        heads = λ i h. elim (cases_eq i rank) [ inl e ↦ rw e (opened.heads ∙ ap (λ (b : BoardEntry). record { minute = b.minute; origin = b.connection.0 }) first-is) | inr e ↦ opened.earlier (i * width t) (omega (arith, row_end rank (places t) i (omega arith))) ∙ o.heads i (omega arith) ];
+        heads = λ i h. elim (cases_eq i rank) [ inl e ↦ rw e (opened.heads ∙ ap (λ (b : BoardEntry). record { minute = b.minute; origin = b.connection.0 }) first_is) | inr e ↦ opened.earlier (i * width t) (omega (arith, row_end rank (places t) i (omega arith))) ∙ o.heads i (omega arith) ];
         blanks = λ i p h k. elim (cases_eq i rank) [ inl e ↦ rw e (opened.blanks p (omega arith)) | inr e ↦ opened.earlier (i * width t + (1 + p)) (omega (arith, row_end rank (places t) i (omega arith))) ∙ o.blanks i p (omega arith) k ];
         same_length = opened.same_length ∙ o.same_length;
         later = opened.later (memory_needed t s) (omega (arith, row_end (ranks t s) (places t) rank rank_below)) ∙ o.later;
       }
         where
           queued' : queue' ≡ put_all label_ahead (map waiting (each (opening_at t s) (rank + 1))) []
-          queued' = put ∙ ap (λ (b : BoardEntry). put_all label_ahead (waiting (entry b.minute rank (stations t + b.connection.0) nowhere) ∷ []) queue) first-is
+          queued' = put ∙ ap (λ (b : BoardEntry). put_all label_ahead (waiting (entry b.minute rank (stations t + b.connection.0) nowhere) ∷ []) queue) first_is
               ∙ ap (put_all label_ahead (map waiting (opening_at t s rank))) o.queued
               ∙ sym (put_all_append label_ahead (map waiting (opening_at t s rank)) (map waiting (each (opening_at t s) rank)) [])
               ∙ ap (λ (k : ℕ). put_all label_ahead (map waiting (each (opening_at t s) k)) []) (sym (add-one rank))
@@ -99,41 +99,41 @@ module _ (t : Table) (law : Lawful t) (s : ℕ) (before : List Label) where
   -- ---- the rows are open
 
   module _ (memory : List Label) (queue : List LabelEntry) (rank room : ℕ) (o : Opening t s before memory [] queue rank) (big : queue_needed t s ≤ room) where
-    all-open : rank ≡ ranks t s
-    all-open = omega (arith, o.below, ap length o.on_board, length-map (drop rank (firsts t s)) (board_entry t), length-drop rank (firsts t s))
+    all_open : rank ≡ ranks t s
+    all_open = omega (arith, o.below, ap length o.on_board, length-map (drop rank (firsts t s)) (board_entry t), length-drop rank (firsts t s))
 
-    queue-is : queue ≡ put_all label_ahead (map waiting (opening t s)) []
-    queue-is = o.queued ∙ ap (λ (k : ℕ). put_all label_ahead (map waiting (each (opening_at t s) k)) []) all-open
+    queue_is : queue ≡ put_all label_ahead (map waiting (opening t s)) []
+    queue_is = o.queued ∙ ap (λ (k : ℕ). put_all label_ahead (map waiting (each (opening_at t s) k)) []) all_open
 
     begins : Begins (ways t s) (map seen queue)
-    begins = subst (λ (q : List LabelEntry). Begins (ways t s) (map seen q)) (sym queue-is) (let b = opening_begins t law s in record {
+    begins = subst (λ (q : List LabelEntry). Begins (ways t s) (map seen q)) (sym queue_is) (let b = opening_begins t law s in record {
       put = λ i p n f. mem-put label_ahead (entry n i p nowhere) (opening t s) [] (join_left [] (b.put i p n f));
       only = λ e m. b.only e (⊎_elim (λ k. k) (λ k. absurd (nobody k)) (join_parts (opening t s) [] (put-mem label_ahead e (opening t s) [] m)));
     })
 
-    blank-cell : (i p : ℕ) → i < ranks t s → p < places t → cell t memory i p ≡ blank
-    blank-cell i p h k = o.blanks i p (omega (arith, all-open)) k
+    blank_cell : (i p : ℕ) → i < ranks t s → p < places t → cell t memory i p ≡ blank
+    blank_cell i p h k = o.blanks i p (omega (arith, all_open)) k
 
-    none-counted : labels_in t s memory ≤ ranks t s * (places t * 0)
-    none-counted = grid_bound (λ i p. cond {A = ℕ} (is_blank (cell t memory i p)) 0 1) (ranks t s) (places t) 0
-        (λ i p h k. omega (arith, ap (λ (l : Label). cond {A = ℕ} (is_blank l) 0 1) (blank-cell i p h k)))
+    none_counted : labels_in t s memory ≤ ranks t s * (places t * 0)
+    none_counted = grid_bound (λ i p. cond {A = ℕ} (is_blank (cell t memory i p)) 0 1) (ranks t s) (places t) 0
+        (λ i p h k. omega (arith, ap (λ (l : Label). cond {A = ℕ} (is_blank l) 0 1) (blank_cell i p h k)))
 
-    opened-turn : Turn t s room before memory queue 0
-    opened-turn = record {
+    opened_turn : Turn t s room before memory queue 0
+    opened_turn = record {
       done = [];
       state = start begins;
-      holds = record { there = λ e m. absurd (nobody m); back = λ i p h k. inl (blank-cell i p h k) };
-      count = omega (arith, none-counted);
-      put = omega (arith, queue_length queue rank o.queued, all-open, each-count (opening_at t s) (ranks t s) (λ i. refl));
+      holds = record { there = λ e m. absurd (nobody m); back = λ i p h k. inl (blank_cell i p h k) };
+      count = omega (arith, none_counted);
+      put = omega (arith, queue_length queue rank o.queued, all_open, each-count (opening_at t s) (ranks t s) (λ i. refl));
       fits = big;
       long = o.long;
-      heads = λ i h. o.heads i (omega (arith, all-open));
+      heads = λ i h. o.heads i (omega (arith, all_open));
       same_length = o.same_length;
       later = o.later;
     }
 
 pub is_turn : OpeningIsTurn
-is_turn t law s room before memory queue rank o big = opened-turn t law s before memory queue rank room o big
+is_turn t law s room before memory queue rank o big = opened_turn t law s before memory queue rank room o big
 
 -- before the first row
 pub opening_start : (t : Table) (s : ℕ) (memory : List Label) (board : List BoardEntry) (queue : List LabelEntry) → board ≡ map (board_entry t) (firsts t s) → queue ≡ [] → memory_needed t s ≤ length memory → Opening t s memory memory board queue 0

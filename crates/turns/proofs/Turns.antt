@@ -89,8 +89,8 @@ module _ (t : Table) (law : Lawful t) (s room : ℕ) (before : List Label) where
       wrote' : Wrote (ranks t s) (places t) (cell t memory) (cell t memory') x.rank.0 x.place.0 label
       wrote' = wrote (ranks t s) (places t) x.rank.0 x.place.0 first_small.1 first_small.2 label memory turn.long
 
-      count-more : labels_in t s memory' ≡ labels_in t s memory + 1
-      count-more =
+      count_more : labels_in t s memory' ≡ labels_in t s memory + 1
+      count_more =
           let g = λ (i p : ℕ). cond {A = ℕ} (is_blank (cell t memory i p)) 0 1 in
           let f = λ (i p : ℕ). cond {A = ℕ} (is_blank (cell t memory' i p)) 0 1 in
           let e : g x.rank.0 x.place.0 ≡ 0 = cond-true {A = ℕ} (is_blank (cell t memory x.rank.0 x.place.0)) 0 1 (eq-eqb _ _ mine) in
@@ -141,8 +141,8 @@ module _ (t : Table) (law : Lawful t) (s room : ℕ) (before : List Label) where
       longer = omega (arith, put_all_length label_ahead (map waiting (leads t (seen x))) rest, length-map (leads t (seen x)) waiting)
 
       -- so there is room for what it leads to
-      pub leads-fit : length (leads t (seen x)) + length rest ≤ room
-      leads-fit = omega (arith, turn.put, turn.fits, ever, puts_few t law s done' (map seen (with_leads t x rest)) state')
+      pub leads_fit : length (leads t (seen x)) + length rest ≤ room
+      leads_fit = omega (arith, turn.put, turn.fits, ever, puts_few t law s done' (map seen (with_leads t x rest)) state')
 
       -- settled: written, and what it leads to is put
       pub settles : Turn t s room before memory' (with_leads t x rest) (written + 1)
@@ -150,7 +150,7 @@ module _ (t : Table) (law : Lawful t) (s room : ℕ) (before : List Label) where
         done = done';
         state = state';
         holds = holds';
-        count = omega (arith, turn.count, count-more);
+        count = omega (arith, turn.count, count_more);
         put = omega (arith, turn.put, ever, longer);
         fits = turn.fits;
         long = omega (arith, turn.long, length-set memory (x.rank.0 * width t + (1 + x.place.0)) label);
@@ -159,8 +159,8 @@ module _ (t : Table) (law : Lawful t) (s room : ℕ) (before : List Label) where
         later = wrote_later (ranks t s) (places t) x.rank.0 x.place.0 first_small.1 first_small.2 label memory turn.long ∙ turn.later;
       }
 
-      pub settles-less : turns_left t s (with_leads t x rest) (written + 1) < turns_left t s (x ∷ rest) written
-      settles-less = omega (
+      pub settles_less : turns_left t s (with_leads t x rest) (written + 1) < turns_left t s (x ∷ rest) written
+      settles_less = omega (
         arith,
         longer,
         ap (λ (k : ℕ). (ranks t s * places t - k) * (3 * connections t + 1)) (add-one written),
@@ -187,7 +187,7 @@ module _ (t : Table) (law : Lawful t) (s room : ℕ) (before : List Label) where
         by_rank (inr h) = (a.by, a.settled, omega (arith, a.higher), a.same)
 
     rows : Rows t s memory
-    rows = record { long_enough = turn.long; heads = turn.heads; entries = λ i p hi hp. is-entry i p hi hp (turn.holds.back i p hi hp) }
+    rows = record { long_enough = turn.long; heads = turn.heads; entries = λ i p hi hp. is_entry i p hi hp (turn.holds.back i p hi hp) }
       where
         none : (i p n : ℕ) → cell t memory i p ≡ blank → (g : Entry) × Mem g turn.done × (g.rank ≡ i) × (g.place ≡ p) → ⊥
         none i p n e (g, m, r, q) =
@@ -195,9 +195,9 @@ module _ (t : Table) (law : Lawful t) (s room : ℕ) (before : List Label) where
             let b : (cell t memory g.rank g.place).minute ≡ 4294967295 = rw (r, q) (ap (λ (l : Label). l.minute) e) in
             omega (arith, ((search_small t law s turn.done [] turn.state).settled g m).0)
 
-        is-entry : (i p : ℕ) → i < ranks t s → p < places t → (cell t memory i p ≡ blank) ⊎ Mem (entry (cell t memory i p).minute i p (cell t memory i p).origin) turn.done → IsEntry t s i p (cell t memory i p)
-        is-entry i p hi hp (inr m) = inl ((exact (entry (cell t memory i p).minute i p (cell t memory i p).origin)).0 m)
-        is-entry i p hi hp (inl e) = inr (e, λ n b. none i p n e (leading i p n b))
+        is_entry : (i p : ℕ) → i < ranks t s → p < places t → (cell t memory i p ≡ blank) ⊎ Mem (entry (cell t memory i p).minute i p (cell t memory i p).origin) turn.done → IsEntry t s i p (cell t memory i p)
+        is_entry i p hi hp (inr m) = inl ((exact (entry (cell t memory i p).minute i p (cell t memory i p).origin)).0 m)
+        is_entry i p hi hp (inl e) = inr (e, λ n b. none i p n e (leading i p n b))
 
 pub drop_keeps : DropKeeps
 drop_keeps t law s room before memory x rest written turn first settled = drops t law s room before memory x rest written turn first settled
@@ -205,8 +205,8 @@ drop_keeps t law s room before memory x rest written turn first settled = drops 
 pub settle_keeps : SettleKeeps
 settle_keeps t law s room before memory x rest written turn first free = record {
   keeps = settles t law s room before memory x rest written turn free first;
-  lowers = settles-less t law s room before memory x rest written turn free first;
-  has_room = leads-fit t law s room before memory x rest written turn free first;
+  lowers = settles_less t law s room before memory x rest written turn free first;
+  has_room = leads_fit t law s room before memory x rest written turn free first;
 }
 
 pub end_gives_rows : EndGivesRows

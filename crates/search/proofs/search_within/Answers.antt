@@ -1,7 +1,7 @@
 use Rattle.std.proofs.Common.{◌≡◌, ℕ, min, map, length, sym, ap, ◌∙◌, subst, arith}
 use Rattle.timetable.specs.Labels.{firsts}
 use Rattle.turns.specs.Opening.{board_entry}
-use Rattle.turns.proofs.Departures.{ranks-few}
+use Rattle.turns.proofs.Departures.{ranks_few}
 use Rattle.turns.proofs.Openings.{opening_start, begin_anew}
 use Rattle.search.proofs.Accepts.{accepted, same_refusal}
 use Rattle.search.proofs.Turning.{answered}
@@ -33,7 +33,7 @@ pub overflow_cast-result : goal.overflow_cast-result
 overflow_cast-result g c =
     let t = g.T.Means.meaning c.args.t.now in
     let law = g.T.Means.lawful c.args.t.now in
-    omega (arith, c.plan_from-planned.ensures.planned.departures, ranks-few t c.plan_from-planned.result.source.0 law)
+    omega (arith, c.plan_from-planned.ensures.planned.departures, ranks_few t c.plan_from-planned.result.source.0 law)
 
 pub returns : goal.returns
 returns g c =

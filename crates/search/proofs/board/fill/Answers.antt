@@ -5,7 +5,7 @@ use Rattle.entries.specs.declared.board.BoardEntry.{BoardEntry}
 use Rattle.entries.specs.Kinds.{board_ahead}
 use Rattle.turns.specs.Puts.{put_all}
 use Rattle.turns.specs.Opening.{board_entry, departure_by}
-use Rattle.turns.proofs.Departures.{board_fits, boarded-more}
+use Rattle.turns.proofs.Departures.{board_fits, boarded_more}
 use Rattle.search.proofs.board.fill.Goals as goal
 
 pub loop-c-init : goal.loop-c-init
@@ -35,5 +35,5 @@ loop-c-preserved g c =
     record {
       in_order = c.add_some.ensures.in_order;
       same_room = c.add_some.ensures.same_room ∙ c.loop-c.invariant.same_room;
-      holds = c.add_some.ensures.holds ∙ ap (λ (z : List BoardEntry). put_all board_ahead z (g.B.Queue.bag c.loop-c.board)) c.departure_of.ensures ∙ ap (put_all board_ahead (departure_by t s c.loop-c.c)) c.loop-c.invariant.holds ∙ boarded-more t s c.loop-c.c;
+      holds = c.add_some.ensures.holds ∙ ap (λ (z : List BoardEntry). put_all board_ahead z (g.B.Queue.bag c.loop-c.board)) c.departure_of.ensures ∙ ap (put_all board_ahead (departure_by t s c.loop-c.c)) c.loop-c.invariant.holds ∙ boarded_more t s c.loop-c.c;
     }

@@ -7,7 +7,7 @@ use Rattle.entries.specs.Kinds.{label_ahead}
 use Rattle.journeys.specs.Queued.{each, leads_by, leads}
 use Rattle.turns.specs.Seen.{seen, waiting}
 use Rattle.turns.specs.Puts.{Grown}
-use Rattle.turns.proofs.Added.{grown_none, grown-then, fits_more}
+use Rattle.turns.proofs.Added.{grown_none, grown_then, fits_more}
 use Rattle.turns.proofs.Led.{each-rises}
 use Rattle.search.proofs.lead.lead_all.Goals as goal
 
@@ -31,4 +31,4 @@ pub loop-c-preserved : goal.loop-c-preserved
 loop-c-preserved g c =
     let f = leads_by (g.T.Means.meaning c.args.t.now) (seen c.args.x) in
     rw add-one (subst (λ (z : List LabelEntry). Grown label_ahead g.L.Queue.ordered g.L.Queue.bag g.L.Queue.room z c.args.labels.now c.lead_by.new.labels) (sym (map-append waiting (f c.loop-c.c) (each f c.loop-c.c)))
-    (grown-then label_ahead g.L.Queue.ordered g.L.Queue.bag g.L.Queue.room (map waiting (f c.loop-c.c)) (map waiting (each f c.loop-c.c)) c.args.labels.now c.loop-c.labels c.lead_by.new.labels c.loop-c.invariant c.lead_by.ensures))
+    (grown_then label_ahead g.L.Queue.ordered g.L.Queue.bag g.L.Queue.room (map waiting (f c.loop-c.c)) (map waiting (each f c.loop-c.c)) c.args.labels.now c.loop-c.labels c.lead_by.new.labels c.loop-c.invariant c.lead_by.ensures))

@@ -8,7 +8,7 @@ use Rattle.journeys.specs.Search.{Entry}
 use Rattle.journeys.specs.Queued.{ride_by, stay_by, change_by, leads_by}
 use Rattle.turns.specs.Seen.{seen, waiting}
 use Rattle.turns.specs.Puts.{Grown, those}
-use Rattle.turns.proofs.Added.{grown-then, fits_more}
+use Rattle.turns.proofs.Added.{grown_then, fits_more}
 use Rattle.search.proofs.lead.lead_by.Goals as goal
 
 -- the three parts, as they wait
@@ -58,7 +58,7 @@ add_some-requires-3 g c =
     record {
       ordered = c.add_some-2.ensures.in_order;
       fits = fits_more label_ahead g.L.Queue.ordered g.L.Queue.bag g.L.Queue.room (length (leads_by t x n)) (length (those c.ride_of.result)) (those c.stay_of.result ++ those c.change_of.result) c.args.labels.now c.add_some-2.new.q
-          (grown-then label_ahead g.L.Queue.ordered g.L.Queue.bag g.L.Queue.room (those c.stay_of.result) (those c.change_of.result) c.args.labels.now c.add_some.new.q c.add_some-2.new.q c.add_some.ensures c.add_some-2.ensures)
+          (grown_then label_ahead g.L.Queue.ordered g.L.Queue.bag g.L.Queue.room (those c.stay_of.result) (those c.change_of.result) c.args.labels.now c.add_some.new.q c.add_some-2.new.q c.add_some.ensures c.add_some-2.ensures)
           (omega (arith, parts_length t x n (those c.ride_of.result) (those c.stay_of.result) (those c.change_of.result) c.ride_of.ensures c.stay_of.ensures c.change_of.ensures, length-append (those c.stay_of.result) (those c.change_of.result)))
           c.requires.fits;
     }
@@ -70,6 +70,6 @@ returns g c =
     let n = c.args.number.0 in
     let e : those c.ride_of.result ++ (those c.stay_of.result ++ those c.change_of.result) ≡ map waiting (leads_by t x n) = cc (parts t x n, c.ride_of.ensures, c.stay_of.ensures, c.change_of.ensures) in
     subst (λ (z : List LabelEntry). Grown label_ahead g.L.Queue.ordered g.L.Queue.bag g.L.Queue.room z c.args.labels.now c.add_some-3.new.q) e
-    (grown-then label_ahead g.L.Queue.ordered g.L.Queue.bag g.L.Queue.room (those c.ride_of.result) (those c.stay_of.result ++ those c.change_of.result) c.args.labels.now c.add_some-2.new.q c.add_some-3.new.q
-    (grown-then label_ahead g.L.Queue.ordered g.L.Queue.bag g.L.Queue.room (those c.stay_of.result) (those c.change_of.result) c.args.labels.now c.add_some.new.q c.add_some-2.new.q c.add_some.ensures c.add_some-2.ensures)
+    (grown_then label_ahead g.L.Queue.ordered g.L.Queue.bag g.L.Queue.room (those c.ride_of.result) (those c.stay_of.result ++ those c.change_of.result) c.args.labels.now c.add_some-2.new.q c.add_some-3.new.q
+    (grown_then label_ahead g.L.Queue.ordered g.L.Queue.bag g.L.Queue.room (those c.stay_of.result) (those c.change_of.result) c.args.labels.now c.add_some.new.q c.add_some-2.new.q c.add_some.ensures c.add_some-2.ensures)
     c.add_some-3.ensures)

@@ -6,8 +6,8 @@ use Rattle.turns.specs.Seen.{waiting}
 use Rattle.turns.specs.Puts.{put_all}
 use Rattle.turns.specs.Cells.{RowOpened}
 use Rattle.turns.specs.Opening.{Opening}
-use Rattle.turns.proofs.Departures.{ranks-few}
-use Rattle.turns.proofs.Openings.{rank_below, has_room, opens-more, is_turn}
+use Rattle.turns.proofs.Departures.{ranks_few}
+use Rattle.turns.proofs.Openings.{rank_below, has_room, opens_more, is_turn}
 use Rattle.search.proofs.Turning.{memory_fits}
 use Rattle.search.proofs.opening.open.Goals as goal
 
@@ -34,7 +34,7 @@ pub overflow_add-rank : goal.overflow_add-rank
 overflow_add-rank g c =
     let t = g.T.Means.meaning c.args.t.now in
     let law = g.T.Means.lawful c.args.t.now in
-    omega (arith, c.loop-first.invariant.4.below, ranks-few t c.args.plan.source.0 law)
+    omega (arith, c.loop-first.invariant.4.below, ranks_few t c.args.plan.source.0 law)
 
 pub loop-first-preserved : goal.loop-first-preserved
 loop-first-preserved g c =
@@ -44,7 +44,7 @@ loop-first-preserved g c =
       c.add.ensures.in_order,
       c.take.ensures.room ∙ c.loop-first.invariant.2,
       c.add.ensures.same_room ∙ c.loop-first.invariant.3,
-      opens-more t law c.args.plan.source.0 c.args.memory.now c.loop-first.memory (g.B.Queue.bag c.loop-first.board) (g.B.Queue.bag c.take.new.self) (g.L.Queue.bag c.loop-first.labels) c.loop-first.rank c.in-Some.first c.loop-first.invariant.4 (c.in-Some.ensures.taken c.loop-first.invariant.0)
+      opens_more t law c.args.plan.source.0 c.args.memory.now c.loop-first.memory (g.B.Queue.bag c.loop-first.board) (g.B.Queue.bag c.take.new.self) (g.L.Queue.bag c.loop-first.labels) c.loop-first.rank c.in-Some.first c.loop-first.invariant.4 (c.in-Some.ensures.taken c.loop-first.invariant.0)
           c.open_row.new.memory (g.L.Queue.bag c.add.new.q)
           (subst (λ (n : ℕ). RowOpened (n + 1) c.loop-first.rank (record { minute = c.in-Some.first.minute; origin = c.in-Some.first.connection.0 }) c.loop-first.memory c.open_row.new.memory) c.requires.planned.places c.open_row.ensures)
           (subst (λ (n : ℕ). g.L.Queue.bag c.add.new.q ≡ put_all label_ahead (waiting (entry c.in-Some.first.minute c.loop-first.rank n nowhere) ∷ []) (g.L.Queue.bag c.loop-first.labels)) c.place_of.ensures c.add.ensures.holds),

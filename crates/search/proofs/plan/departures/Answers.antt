@@ -3,7 +3,7 @@ use Rattle.timetable.specs.Table.{connections}
 use Rattle.timetable.specs.Labels.{firsts_below}
 use Rattle.entries.specs.declared.board.BoardEntry.{BoardEntry}
 use Rattle.turns.specs.Puts.{those}
-use Rattle.turns.proofs.Departures.{departure-length}
+use Rattle.turns.proofs.Departures.{departure_length}
 use Rattle.search.proofs.plan.departures.Goals as goal
 use Rattle.search.proofs.plan.departures.Goals.{in-Some, in_default}
 
@@ -20,7 +20,7 @@ returns g c =
 pub loop-c-preserved : goal.loop-c-preserved
 loop-c-preserved g c =
     let t = g.T.Means.meaning c.args.t.now in
-    let base = departure-length t c.args.source.0 c.loop-c.c in
+    let base = departure_length t c.args.source.0 c.loop-c.c in
     let e = ap length c.departure_of.ensures in
     elim c.match-departure_of.branch [
       | in-Some w ↦ (let z : length (those c.departure_of.result) ≡ 1 = ap (λ (r : Option BoardEntry). length (those r)) w.in-Some.is in (omega (arith, w.n-is, c.loop-c.invariant.0), omega (arith, w.n-is, c.loop-c.invariant.1)))

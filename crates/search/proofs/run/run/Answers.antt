@@ -3,7 +3,7 @@ use Rattle.timetable.specs.declared.label.Label.{Label}
 use Rattle.entries.specs.declared.label.LabelEntry.{LabelEntry}
 use Rattle.turns.specs.Running.{Turn}
 use Rattle.turns.specs.Theorems.{with_label}
-use Rattle.search.proofs.Turning.{count_small, now-fits, minute-small, rank-inside, place_inside, dropped, settling, at_width}
+use Rattle.search.proofs.Turning.{count_small, now_fits, minute_small, rank_inside, place_inside, dropped, settling, at_width}
 use Rattle.search.proofs.run.run.Goals as goal
 
 pub settled-requires : goal.settled-requires
@@ -12,7 +12,7 @@ settled-requires g c =
     let law = g.T.Means.lawful c.args.t.now in
     let taken = c.in-Some.ensures.taken c.loop-x.invariant.0 in
     record {
-      fits = now-fits t law c.args.plan c.requires.planned c.loop-x.invariant.2;
+      fits = now_fits t law c.args.plan c.requires.planned c.loop-x.invariant.2;
       place = place_inside t law c.args.plan c.requires.planned c.loop-x.invariant.2 taken;
     }
 
@@ -22,8 +22,8 @@ write-requires g c =
     let law = g.T.Means.lawful c.args.t.now in
     let taken = c.in-Some.ensures.taken c.loop-x.invariant.0 in
     record {
-      fits = now-fits t law c.args.plan c.requires.planned c.loop-x.invariant.2;
-      rank = rank-inside t law c.args.plan c.requires.planned c.loop-x.invariant.2 taken;
+      fits = now_fits t law c.args.plan c.requires.planned c.loop-x.invariant.2;
+      rank = rank_inside t law c.args.plan c.requires.planned c.loop-x.invariant.2 taken;
       place = place_inside t law c.args.plan c.requires.planned c.loop-x.invariant.2 taken;
     }
 
@@ -34,7 +34,7 @@ lead-requires g c =
     let taken = c.in-Some.ensures.taken c.loop-x.invariant.0 in
     let settles = settling t law c.args.plan c.requires.planned c.loop-x.invariant.2 taken c.settled.result c.settled.ensures (c.in-Some.ensures.least c.loop-x.invariant.0) c.if-not-settled.true in
     record {
-      small = minute-small t law c.args.plan c.requires.planned c.loop-x.invariant.2 taken;
+      small = minute_small t law c.args.plan c.requires.planned c.loop-x.invariant.2 taken;
       place = omega (arith, c.requires.planned.places, place_inside t law c.args.plan c.requires.planned c.loop-x.invariant.2 taken);
       ordered = c.take.ensures.ordered c.loop-x.invariant.0;
       fits = omega (arith, c.take.ensures.room, c.loop-x.invariant.1, settles.has_room);

@@ -1,7 +1,7 @@
 use Rattle.std.proofs.Common.{◌≡◌, ◌+◌, ◌<◌, length, sym, ap, ◌∙◌, subst, arith}
 use Rattle.buckets.specs.Chains.{Chain, nexts, Linked}
 use Rattle.buckets.specs.InBuckets.{Lodged, Fine, Reserved, in_cells, BucketReserved}
-use Rattle.buckets.proofs.Places.{placed, placed-held, not_full, chain-bucket, short, lowered}
+use Rattle.buckets.proofs.Places.{placed, placed_held, not_full, chain_bucket, short, lowered}
 use Rattle.buckets.proofs.buckets.Buckets.place.Goals as goal
 
 pub returns : goal.returns
@@ -23,7 +23,7 @@ returns g c =
     let to : BucketReserved ahead minute_of new q → Reserved ahead (Lodged minute_of low') new cs q.heads.bits q.heads.first q.free q.fresh q.len = λ r. lowered o r low' (omega arith) in
     let here : Lodged minute_of low' b e = (sym c.bucket_of-b.ensures, omega arith) in
     let lk : (r : Reserved ahead (Lodged minute_of low') new cs q.heads.bits q.heads.first q.free q.fresh q.len) → Linked ahead cs cs' (r.fine.chains b) new e start = λ r.
-    c.link-start.ensures.linked (r.fine.chains b) (subst (λ m. Chain (nexts cs) m (r.fine.chains b)) (sym c.first-head.ensures) (chain-bucket o r.fine b bl)) (r.loose b (omega arith)) (short o r.fine b (omega arith)) in
+    c.link-start.ensures.linked (r.fine.chains b) (subst (λ m. Chain (nexts cs) m (r.fine.chains b)) (sym c.first-head.ensures) (chain_bucket o r.fine b bl)) (r.loose b (omega arith)) (short o r.fine b (omega arith)) in
     record {
       room = size;
       ordered = λ r₀.
@@ -35,5 +35,5 @@ returns g c =
           (placed o r cs' c.fill.new.self.bits b start e bl here (lk r) size c.link-start.ensures.within told.here told.others));
       held = λ r₀.
           let r = to r₀ in
-          ap (in_cells ahead cs') told.first ∙ placed-held o r cs' c.fill.new.self.bits b start e bl here (lk r) size c.link-start.ensures.within told.here told.others;
+          ap (in_cells ahead cs') told.first ∙ placed_held o r cs' c.fill.new.self.bits b start e bl here (lk r) size c.link-start.ensures.within told.here told.others;
     }

@@ -8,7 +8,7 @@ use Rattle.buckets.specs.InBuckets.{Lodged, Fine, BucketFine, in_cells}
 use Rattle.queue.proofs.Bag.{first_least}
 use Rattle.buckets.proofs.Pours.{ascends_total}
 use Rattle.buckets.proofs.Walks.{next_of, keep, length-entries}
-use Rattle.buckets.proofs.Places.{clear_held, head_cell, unlinked, unlinked-held, taken_out, released, released-held}
+use Rattle.buckets.proofs.Places.{clear_held, head_cell, unlinked, unlinked_held, taken_out, released, released_held}
 use Rattle.buckets.proofs.buckets.BucketsQueue.take.Goals as goal
 
 pub returns-in_default : goal.returns-in_default
@@ -45,8 +45,8 @@ returns g c =
     let lead = c.in-Some.ensures w in
     let bl : b < 256 = lead.known in
     let h = head_cell o w b i bl c.first-at.ensures lt in
-    unlinked-held o w bits' b i next h.0 bl h.1 nis le told.here told.others x xis (leads w)
-    ∙ ap (λ l. x ∷ l) (sym (ap (in_cells ahead cs') told.first ∙ released-held o (unlinked o w bits' b i next h.0 bl h.1 nis le told.here told.others) cs' size eis nis')) in
+    unlinked_held o w bits' b i next h.0 bl h.1 nis le told.here told.others x xis (leads w)
+    ∙ ap (λ l. x ∷ l) (sym (ap (in_cells ahead cs') told.first ∙ released_held o (unlinked o w bits' b i next h.0 bl h.1 nis le told.here told.others) cs' size eis nis')) in
     record {
       room = size;
       ordered = λ w.

@@ -5,7 +5,7 @@ use Rattle.std.proofs.lemmas.Result.{err_from_is_err_and}
 use Rattle.queue.specs.Order.{sorted}
 use Rattle.heap.specs.Heaped.{Heaped}
 use Rattle.queue.proofs.Bag.{length-sorted}
-use Rattle.heap.proofs.Ends.{front_length, front_is, put-rising, put-bag}
+use Rattle.heap.proofs.Ends.{front_length, front_is, put_rising, put_bag}
 use Rattle.heap.proofs.heap.HeapQueue.put.Goals as goal
 
 pub returns-in_err-check_room : goal.returns-in_err-check_room
@@ -33,9 +33,9 @@ returns g c =
     let front : take (n + 1) (ys ++ drop k xs) ≡ ys = front_is xs ys k within c.rise.auto.cells (n + 1) (sym is) in
     record {
       room = size;
-      ordered = λ h. (omega arith, subst (Heaped g.E.Entry.ahead) (sym front) (c.rise.ensures.heaped (put-rising o xs n k e is below h.1)));
+      ordered = λ h. (omega arith, subst (Heaped g.E.Entry.ahead) (sym front) (c.rise.ensures.heaped (put_rising o xs n k e is below h.1)));
       placed = λ h. (
         let held = length-sorted o (take n xs) ∙ length-take-le n xs h.0 in omega arith,
-        ap (sorted g.E.Entry.ahead) front ∙ c.rise.ensures.bag ∙ put-bag o xs n k e is below,
+        ap (sorted g.E.Entry.ahead) front ∙ c.rise.ensures.bag ∙ put_bag o xs n k e is below,
       );
     }

@@ -4,7 +4,7 @@ use Rattle.std.proofs.lemmas.List.{get_or_default}
 use Rattle.queue.specs.Order.{sorted}
 use Rattle.heap.specs.Heaped.{Heaped}
 use Rattle.queue.proofs.Bag.{ascends_sorted, first_least}
-use Rattle.heap.proofs.Ends.{front_length, front_is, take-sinking, take-bag}
+use Rattle.heap.proofs.Ends.{front_length, front_is, take_sinking, take_bag}
 use Rattle.heap.proofs.heap.HeapQueue.take.Goals as goal
 use Rattle.heap.proofs.heap.HeapQueue.take.Goals.{then-n-eq0-via-then-n-eq0, then-n-eq0-via-else-n-eq0+then-self-n}
 
@@ -39,10 +39,10 @@ returns g c =
     let size : length (ys ++ drop k xs) ≡ length xs = front_length xs ys k (omega arith) c.sink.auto.cells in
     let front : take (n - 1) (ys ++ drop k xs) ≡ ys = front_is xs ys k (omega arith) c.sink.auto.cells (n - 1) at-end in
     let left = take (n - 1) (ys ++ drop k xs) in
-    let took : Heaped ahead (take n xs) → sorted ahead (take n xs) ≡ first ∷ sorted ahead left = λ h. take-bag o xs n k first last is fits head end h ∙ ap (λ l. first ∷ l) (sym (ap (sorted ahead) front ∙ c.sink.ensures.bag)) in
+    let took : Heaped ahead (take n xs) → sorted ahead (take n xs) ≡ first ∷ sorted ahead left = λ h. take_bag o xs n k first last is fits head end h ∙ ap (λ l. first ∷ l) (sym (ap (sorted ahead) front ∙ c.sink.ensures.bag)) in
     record {
       room = size;
-      ordered = λ h. (omega arith, subst (Heaped g.E.Entry.ahead) (sym front) (c.sink.ensures.heaped (take-sinking o xs n k first last is fits head end h.1)));
+      ordered = λ h. (omega arith, subst (Heaped g.E.Entry.ahead) (sym front) (c.sink.ensures.heaped (take_sinking o xs n k first last is fits head end h.1)));
       taken = λ h. took h.1;
       least = λ h. first_least ahead (sorted ahead (take n xs)) first (sorted ahead left) (ascends_sorted o (take n xs)) (took h.1);
     }

@@ -4,7 +4,7 @@ use Rattle.refusals.specs.declared.refusal.Refusal.TheVariants.{NoSearch}
 use Rattle.timetable.specs.Noticed.{noticed}
 use Rattle.notices.specs.Slots.{found}
 use Rattle.answers.specs.Promises.{Arrived}
-use Rattle.law.proofs.Telling.{arrive-line, arrive_none, by_some, by_none}
+use Rattle.law.proofs.Telling.{arrive_line, arrive_none, by_some, by_none}
 use Rattle.planner.proofs.planner.Planner.arrive.Goals as goal
 
 pub returns-in_err-standing : goal.returns-in_err-standing
@@ -27,5 +27,5 @@ returns g c =
     let is = c.in_ok-standing.ensures in
     record {
       answer = by_some p.standing _ (λ x. Arrived (noticed t (found p.notices.table.slots)) x.source.0 x.rows c.args.memory.now c.args.target.0 c.args.minute c.arrive.result) c.in_ok-standing.standing is c.arrive.ensures.answer;
-      law = λ b rest a. arrive-line t b c.args.memory.now rest p.notices.table.slots p.standing a c.args.target.0 c.in_ok-standing.standing is c.args.minute c.arrive.result c.arrive.ensures.answer c.arrive.ensures.searched;
+      law = λ b rest a. arrive_line t b c.args.memory.now rest p.notices.table.slots p.standing a c.args.target.0 c.in_ok-standing.standing is c.args.minute c.arrive.result c.arrive.ensures.answer c.arrive.ensures.searched;
     }

@@ -13,6 +13,7 @@ mod searching;
 
 use command::Command;
 use failure::Failure;
+use std::process::ExitCode;
 
 fn run(rt: &HostRuntime) -> Result<(), Failure> {
     match command::read(rt)? {
@@ -26,10 +27,12 @@ fn run(rt: &HostRuntime) -> Result<(), Failure> {
     }
 }
 
-fn main(rt: HostRuntime) -> Result<(), Failure> {
-    let result = run(&rt);
-    if let Err(failure) = &result {
-        eprintln!(rt; "bapyiro: {failure}")?;
+fn main(rt: HostRuntime) -> ExitCode {
+    match run(&rt) {
+        Ok(()) => ExitCode::SUCCESS,
+        Err(failure) => {
+            let _ = eprintln!(rt; "bapyiro: {failure}");
+            ExitCode::FAILURE
+        }
     }
-    result
 }

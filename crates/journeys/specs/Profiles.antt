@@ -1,5 +1,5 @@
 -- The unbeaten pairs by a check that computes over the settled labels.
-use Rattle.std.specs.Prelude.{◌≡◌, ℕ, ◌+◌, ◌-◌, ◌%◌, ◌<◌, Bool, true, false, not, ◌&&◌, ◌||◌, leb, ◌⊎◌, ◌↔◌, List, [], ◌∷◌, ℤ, pos, ◌≤ℤ◌, ◌==◌, nat_le}
+use Rattle.std.specs.Prelude.{◌≡◌, ℕ, ◌+◌, ◌-◌, ◌%◌, ◌<◌, Bool, true, false, not, ◌&&◌, ◌||◌, ◌⊎◌, ◌↔◌, List, [], ◌∷◌, ℤ, pos, ◌≤ℤ◌, ◌==◌, nat_le}
 use Rattle.timetable.specs.Table.{Table, Lawful, at, stations, ahead, next_departure}
 use Rattle.timetable.specs.Pairs.{Travels, Unbeaten}
 use Rattle.timetable.specs.Legs.{Legs}
@@ -77,7 +77,7 @@ ProfileChecked = (t : Table) → Lawful t → (s v : ℕ) → v < stations t →
 abbrev pub arrival_check : ℕ → List (ℕ × ℕ) → ℕ → ℕ → ℕ → Bool
 arrival_check period ps n d a =
     any_pair (λ p. (d % period == p.0) && a + p.0 == p.1 + d) ps
-    && (nat_le n d && all_pairs (λ p. leb d (n + ahead period n p.0)) ps)
+    && (nat_le n d && all_pairs (λ p. nat_le d (n + ahead period n p.0)) ps)
 
 abbrev pub ArrivalChecked : Type 0
 ArrivalChecked = (t : Table) → Lawful t → (s v : ℕ) → v < stations t → (ps : List (ℕ × ℕ)) → ProfileIs t s v ps → (n d a : ℕ) → arrival_check t.period ps n d a ≡ true → FirstAt t s v (pos n) (pos d) (pos a)

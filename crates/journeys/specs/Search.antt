@@ -52,7 +52,7 @@ pub record Origin (w : Ways) (label : Labels) (i p n q : ℕ) : Type 0 where
 
 -- ---- a finished search
 
--- an entry's grounds among the settled: it is a first ride, or a settled label at its origin, at the same rank, gives it
+-- an entry's ground among the settled: it is a first ride, or a settled label at its origin, at the same rank, gives it
 abbrev pub Ground : Ways → List Entry → Entry → Type 0
 Ground w l e = (w.first e.rank e.place e.minute × (e.origin ≡ nowhere))
     ⊎ ((g : Entry) × Mem g l × (g.rank ≡ e.rank) × (g.place ≡ e.origin) × w.gives g.place g.minute e.place e.minute)

@@ -44,7 +44,7 @@ enum Line {
 }
 
 /// A decimal number.
-pub fn number(word: &str) -> Option<u64> {
+fn number(word: &str) -> Option<u64> {
     for b in word.bytes() {
         if !b.is_ascii_digit() {
             return None;
@@ -153,7 +153,7 @@ fn read_line(settings: Settings, text: &str) -> Option<Line> {
 }
 
 /// The calls of a script, each with the settings at its line.
-pub fn read(heap: Global, path: &str, text: &str) -> Result<Vec<Entry>, Failure> {
+pub(crate) fn read(heap: Global, path: &str, text: &str) -> Result<Vec<Entry>, Failure> {
     let mut entries = Vec::new(heap);
     let mut settings = UNSET;
     for (place, line) in text.lines().enumerate() {

@@ -1,21 +1,18 @@
 -- What code that looks at rows may rest on, and what it has found.
-use Rattle.std.proofs.Common.{◌≡◌, ℕ, ◌+◌, ◌*◌, ◌<◌, ◌≤◌, Bool, true, false, cond, eqb, ltb, leb, List, Some, None, Option, Result, sym, refl, subst, ⊎_elim, arith}
-use lib.Arith.{digits_lt}
-use Rattle.std.proofs.lemmas.Bool.{cases_lt, ltb-false, leb-false}
-use Rattle.std.proofs.lemmas.Nat.{mul-le}
+use Rattle.std.proofs.Common.{◌≡◌, ℕ, ◌<◌, ◌≤◌, Bool, true, false, cond, eqb, leb, List, Some, None, Option, Result, sym, refl, subst, ⊎_elim, arith}
+use Rattle.std.proofs.lemmas.Bool.{cases_lt, leb-false}
 use Rattle.refusals.specs.declared.refusal.Refusal.{Refusal}
 use Rattle.timetable.specs.declared.label.Label.{Label}
 use Rattle.timetable.specs.declared.leg.Leg.{Leg}
 use Rattle.timetable.specs.declared.pair.Pair.{Pair}
 use Rattle.timetable.specs.Table.{Table, Lawful, stations}
 use Rattle.timetable.specs.Labels.{ranks}
-use Rattle.timetable.specs.Rows.{width, head, entry, Rows}
-use Rattle.answers.specs.declared.view.View.{View}
+use Rattle.timetable.specs.Rows.{head, entry, Rows}
 use Rattle.answers.specs.Foreign.{Reached, late, far, AllOwn}
 use Rattle.answers.specs.Chains.{JourneyRow}
-use Rattle.answers.specs.Promises.{rows_refusal, minute_refusal, target_refusal, asked, asked_profile, Arrived, Profiled, Journeyed}
+use Rattle.answers.specs.Promises.{asked, Arrived, Profiled, Journeyed}
 use Rattle.answers.specs.Subject.{ArriveTold, ProfileTold, JourneyTold}
-use Rattle.answers.specs.Rowwise.{view_of, Within, FirstPair, now, next}
+use Rattle.answers.specs.Rowwise.{view_of, FirstPair, now, next}
 use Rattle.answers.proofs.Outdone.{found_now, found-next}
 use Rattle.answers.proofs.Telling.{arrive_told, profile_told}
 use Rattle.answers.proofs.ChainTold.{journey_told}
@@ -24,40 +21,18 @@ not_refused : (b : Bool) (x : Option Refusal) (r : Refusal) → cond b (Some r) 
 not_refused true x r e = let z : ◌≡◌ {A = ℕ} 0 1 = cc in absurd (omega arith)
 not_refused false x r e = (refl, e)
 
--- entry k of row i lies in the memory
-pub inside : (w : View) (n i k : ℕ) → Within w n → i < w.rows → k < w.width → (i * w.width + k < n) × (i * w.width + k < 281474976710656)
-inside w n i k f h l = let z : i * w.width + k < w.rows * w.width = digits_lt h l in (omega (arith, f.long), omega (arith, f.small))
-
-module _ (t : Table) (law : Lawful t) (s m v len : ℕ) (few : m < 4294967296) where
-  past_target : (rest : Option Refusal) → target_refusal t s v rest ≡ None → (v < stations t) × (rest ≡ None)
-  past_target rest e = let y = not_refused (leb (stations t) v) _ _ e in (leb-false (stations t) v y.0, (not_refused (eqb v s) _ _ y.1).1)
-
-  -- rows that are long enough can be read
-  long_enough : v < stations t → rows_refusal t m len ≡ None → Within (view_of t m v) len
-  long_enough k e = record {
-    long = ltb-false len (m * width t) (not_refused (ltb len (m * width t)) _ _ e).0;
-    small = omega (arith, mul-le m (width t) 4294967296 17409 (omega arith) (omega (arith, law.stations_high, law.connections_high)));
-    inside = omega arith;
-  }
-
-  pub within_asked : (n : ℕ) → asked t s m v n len ≡ None → (n < t.period) × Within (view_of t m v) len
-  within_asked n e =
-      let y = past_target (minute_refusal t m n len) e in
-      let z = not_refused (leb t.period n) _ _ y.1 in
-      (leb-false t.period n z.0, long_enough y.0 z.1)
-
-  pub within_profile : asked_profile t s m v len ≡ None → Within (view_of t m v) len
-  within_profile e = let y = past_target (rows_refusal t m len) e in long_enough y.0 y.1
+module _ (t : Table) (law : Lawful t) (s m v len : ℕ) where
+  pub minute_asked : (n : ℕ) → asked t s m v n len ≡ None → n < t.period
+  minute_asked n e =
+      let x = not_refused (leb (stations t) v) _ _ e in
+      let y = not_refused (eqb v s) _ _ x.1 in
+      leb-false t.period n (not_refused (leb t.period n) _ _ y.1).0
 
 module _ (t : Table) (law : Lawful t) (m : ℕ) (memory : List Label) (v : ℕ) (own : AllOwn t m memory v) where
   -- the row that was found is that of arrive's pair
   pub journey_row : (n i k : ℕ) → n < t.period → FirstPair (view_of t m v) memory n i k → JourneyRow t m memory v n i k
   journey_row n i k h (now f e) = subst (JourneyRow t m memory v n i) (sym e) (found_now t law m memory v own n i f.chosen f.late_enough f.first)
   journey_row n i k h (next none f e) = subst (JourneyRow t m memory v n i) (sym e) (found-next t law m memory v own n i f.chosen h none (λ j l c. f.first j l c (omega arith)))
-
-  pub near : (n i k : ℕ) → FirstPair (view_of t m v) memory n i k → k ≤ 1
-  near n i k (now f e) = omega arith
-  near n i k (next none f e) = omega arith
 
   -- its moments are small
   pub row_small : (i : ℕ) → i < m → Reached t memory v i → ((head t memory i).minute < t.period) × ((entry t memory i v).minute ≤ 400000000)
@@ -66,7 +41,7 @@ module _ (t : Table) (law : Lawful t) (m : ℕ) (memory : List Label) (v : ℕ) 
 -- ---- as many rows as the search has ranks
 
 module _ (t : Table) (law : Lawful t) (s m v : ℕ) (memory : List Label) (rows : Rows t s memory) (all : m ≡ ranks t s) where
-  pub arrive_searched : (n : ℕ) (r : Result (ℕ × ℕ) Refusal) → Arrived t s m memory v n r → ArriveTold t s memory v n r
+  pub arrive_searched : (n : ℕ) (r : Result Pair Refusal) → Arrived t s m memory v n r → ArriveTold t s memory v n r
   arrive_searched n r h = arrive_told t law s v n memory r rows (subst (λ (k : ℕ). Arrived t s k memory v n r) all h)
 
   pub profile_searched : (out out' : List Pair) (r : Result ℕ Refusal) → Profiled t s m memory v out r out' → ProfileTold t s memory v out r out'

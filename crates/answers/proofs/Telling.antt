@@ -195,7 +195,7 @@ target_known t s v rest e = elim (cases_Bool (leb (stations t) v)) [ inl h ↦ a
     never q = let z : ◌≡◌ {A = ℕ} 0 1 = cc in omega arith
 
 pub arrive_told : ArriveTells
-arrive_told t law s v n memory (Ok x) w (a, o, h) = (a, arrives t law s v (target_known t s v _ a) memory w n x.0 x.1 h)
+arrive_told t law s v n memory (Ok x) w (a, o, h) = (a, arrives t law s v (target_known t s v _ a) memory w n x.departure x.arrival h)
 arrive_told t law s v n memory (Err e) w (inl a) = inl a
 arrive_told t law s v n memory (Err e) w (inr (a, h)) = let z = refused_rows t law s v (target_known t s v _ a) memory w e h in inr (a, z.0, z.1)
 

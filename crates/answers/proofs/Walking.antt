@@ -1,13 +1,12 @@
 -- Walks along the origins of one row: each step keeps what was counted and written so far true.
-use Rattle.std.proofs.Common.{◌≡◌, ℕ, ◌+◌, ◌-◌, ◌*◌, ◌<◌, ◌≤◌, Bool, true, false, cond, leb, ◌⊎◌, List, [], ◌∷◌, ◌++◌, map, length, get_or, drop, set, sym, refl, ap, ◌∙◌, subst, inl, inr, arith}
-use Rattle.std.proofs.lemmas.List.{length-map, drop-set, drop_more}
+use Rattle.std.proofs.Common.{◌≡◌, ℕ, ◌+◌, ◌-◌, ◌*◌, ◌<◌, ◌≤◌, Bool, true, false, cond, leb, ◌⊎◌, List, [], ◌∷◌, ◌++◌, map, length, get_or, drop, sym, refl, ap, ◌∙◌, subst, inl, inr, arith}
+use Rattle.std.proofs.lemmas.List.{length-map}
 use Rattle.std.proofs.lemmas.Bool.{cases_lt, lt-ltb, le-ltb, le-leb, lt-leb, both_ways}
 use Rattle.std.proofs.lemmas.Nat.{mul-le}
 use Rattle.timetable.specs.declared.label.Label.{Label}
 use Rattle.timetable.specs.declared.leg.Leg.{Leg}
-use Rattle.timetable.specs.declared.connection.Connection.{Connection}
-use Rattle.timetable.specs.Table.{Table, Lawful, at, stations}
-use Rattle.timetable.specs.Legs.{leg_of, boarded}
+use Rattle.timetable.specs.Table.{Table, Lawful, stations}
+use Rattle.timetable.specs.Legs.{leg_of}
 use Rattle.timetable.specs.Labels.{places, Gives, no_origin}
 use Rattle.timetable.specs.Rows.{head, entry, blank}
 use Rattle.journeys.specs.Search.{Entry}
@@ -86,17 +85,6 @@ module _ (t : Table) where
         on true (inr h) f = rw (le-ltb p (stations t) h) (omega (arith, taken-length true (p - stations t) n gs f, f refl))
         on false (inr h) f = rw (le-ltb p (stations t) h) (omega arith)
 
--- ---- a ride in front of the legs from index j on
-
-module _ (t : Table) (b : Bool) (c n j : ℕ) (out : List Leg) (x : Connection) (is : x ≡ at t c) where
-  pub take-aboard : (d : Leg) → b ≡ true → j < length out → (j + cond b 0 1 ≡ j) × (drop j (set out j (record { train = x.train; first = record { 0 = c }; last = (get_or out j d).last; departure = n; arrival = (get_or out j d).arrival })) ≡ taken t b c n (drop j out))
-  take-aboard d l h = rw (l, is) (omega arith, drop-set out j (boarded t c n (get_or out j d)) h ∙ ap (taken t true c n) (sym (drop_more out j d h)))
-
-  pub take-apart : (r : ℕ) → b ≡ false → 1 ≤ j → j ≤ length out → r ≡ x.ride → ((j - 1) + cond b 0 1 ≡ j) × (drop (j - 1) (set out (j - 1) (record { train = x.train; first = record { 0 = c }; last = record { 0 = c }; departure = n; arrival = n + r })) ≡ taken t b c n (drop j out))
-  take-apart r l h k e =
-      let f : (j - 1) + 1 ≡ j = omega arith in
-      rw (l, e, is) (f, drop-set out (j - 1) (leg_of t c n) (omega arith) ∙ ap (λ (m : ℕ). leg_of t c n ∷ drop m out) f)
-
 -- ---- a step
 
 module _ (t : Table) (law : Lawful t) (w : View) (memory : List Label) (i : ℕ) where
@@ -135,43 +123,38 @@ module _ (t : Table) (law : Lawful t) (w : View) (memory : List Label) (i : ℕ)
       pub read_minute : (entry t memory i p).minute ≡ l.minute
       read_minute = ap (λ (x : Label). x.minute) (sym (reads ∙ entry_is p))
 
-      module _ (h : Label) (heads : h ≡ row_head w memory i) (none : l.origin ≡ no_origin) where
-        pub step_first : p ≡ stations t + h.origin → l.minute ≡ h.minute → RowChain t memory i p (label_at t memory i p ∷ [])
-        step_first e m = ends p (read_origin ∙ none) (e ∙ ap (λ (x : Label). stations t + x.origin) (heads ∙ head_is)) (read_minute ∙ m ∙ ap (λ (x : Label). x.minute) (heads ∙ head_is))
+      module _ (none : l.origin ≡ no_origin) where
+        pub step_first : p ≡ stations t + (row_head w memory i).origin → l.minute ≡ (row_head w memory i).minute → RowChain t memory i p (label_at t memory i p ∷ [])
+        step_first e m = ends p (read_origin ∙ none) (e ∙ ap (λ (x : Label). stations t + x.origin) head_is) (read_minute ∙ m ∙ ap (λ (x : Label). x.minute) head_is)
 
-        pub step_not_first : (p ≡ stations t + h.origin → l.minute ≡ h.minute → ⊥) → (es : List Entry) → RowChain t memory i p es → ⊥
+        pub step_not_first : (p ≡ stations t + (row_head w memory i).origin → l.minute ≡ (row_head w memory i).minute → ⊥) → (es : List Entry) → RowChain t memory i p es → ⊥
         step_not_first f es c =
             let y = chain_first t law memory i p es c (read_origin ∙ none) in
-            f (y.0 ∙ ap (λ (x : Label). stations t + x.origin) (sym (heads ∙ head_is))) (sym read_minute ∙ y.1 ∙ ap (λ (x : Label). x.minute) (sym (heads ∙ head_is)))
+            f (y.0 ∙ ap (λ (x : Label). stations t + x.origin) (sym head_is)) (sym read_minute ∙ y.1 ∙ ap (λ (x : Label). x.minute) (sym head_is))
 
-      module _ (some : l.origin ≡ no_origin → ⊥) where
-        given_on : (es : List Entry) → RowChain t memory i p es → Gives t l.origin (entry t memory i l.origin).minute p l.minute
-        given_on es c = rw (← read_origin, ← read_minute) (chain_onward t memory i p es c (λ e. some (sym read_origin ∙ e))).0
+      module _ (o : ℕ) (from : o ≡ l.origin) (some : l.origin ≡ no_origin → ⊥) where
+        pub origin_is : (entry t memory i p).origin ≡ o
+        origin_is = read_origin ∙ sym from
 
-        pub step_past : w.width ≤ l.origin + 1 → (es : List Entry) → RowChain t memory i p es → ⊥
-        step_past h es c = omega (arith, s.wide, (gives_falls t law _ _ _ _ (given_on es c)).0)
+        given_on : (es : List Entry) → RowChain t memory i p es → Gives t o (entry t memory i o).minute p l.minute
+        given_on es c = rw (← origin_is, ← read_minute) (chain_onward t memory i p es c (λ e. some (sym read_origin ∙ e))).0
 
-        module _ (k : Label) (before : k ≡ row_entry w memory i l.origin) where
-          pub step_given : Gives t l.origin k.minute p l.minute → GivenFrom l.origin p
-          step_given g = rw (read_minute, ← (ap (λ (x : Label). x.minute) (before ∙ entry_is l.origin))) g
+        pub step_given : Gives t o (row_entry w memory i o).minute p l.minute → GivenFrom o p
+        step_given g = rw (read_minute, ← (ap (λ (x : Label). x.minute) (entry_is o))) g
 
-          pub step_not_given : (Gives t l.origin k.minute p l.minute → ⊥) → (es : List Entry) → RowChain t memory i p es → ⊥
-          step_not_given f es c = f (rw (ap (λ (x : Label). x.minute) (before ∙ entry_is l.origin)) (given_on es c))
+        pub step_not_given : (1 + o < w.width → Gives t o (row_entry w memory i o).minute p l.minute → ⊥) → (es : List Entry) → RowChain t memory i p es → ⊥
+        step_not_given f es c =
+            let g = given_on es c in
+            f (omega (arith, s.wide, (gives_falls t law _ _ _ _ g).0)) (rw (ap (λ (x : Label). x.minute) (entry_is o)) g)
 
   module _ (v : ℕ) where
     -- ---- counting
-
-    pub count_start : Stands t w memory i v → Counting t w memory i v v false 0
-    count_start s = record { stands = s; ahead = λ es c. (es, c, omega arith); behind = λ all c. (all, c); few = omega (arith, depth_small v s) }
 
     module _ (p : ℕ) (b : Bool) (k : ℕ) (x : Counting t w memory i v p b k) where
       pub count_end : RowChain t memory i p (label_at t memory i p ∷ []) → (all : List Entry) × RowChain t memory i v all × (k + opened t b p ≡ length (legs_of t all))
       count_end c =
           let y = x.ahead (label_at t memory i p ∷ []) c in
           (y.0, y.1, omega (arith, y.2, count-entry t (label_at t memory i p) [] b, count_back_is t y.0))
-
-      pub count_broken : ((es : List Entry) → RowChain t memory i p es → ⊥) → (all : List Entry) → RowChain t memory i v all → ⊥
-      count_broken f all c = let y = x.behind all c in f y.0 y.1
 
       from_origin : GivenFrom (entry t memory i p).origin p → ((entry t memory i p).origin ≡ no_origin → ⊥) → Counting t w memory i v (entry t memory i p).origin (leb (stations t) p) (k + opened t b p)
       from_origin g n = record {
@@ -257,5 +240,5 @@ module _ (t : Table) (law : Lawful t) (w : View) (memory : List Label) (i : ℕ)
                 },
               )
 
-          pub write_onward : (l.origin ≡ no_origin → ⊥) → (s : ℕ) → s ≡ stations t → (depth_at t memory i l.origin < depth_at t memory i p) × Writing t w memory i v later k out₀ l.origin (leb s p) j' out'
-          write_onward n s e = rw e (subst (λ (q : ℕ). (q ≡ no_origin → ⊥) → (depth_at t memory i q < depth_at t memory i p) × Writing t w memory i v later k out₀ q (leb (stations t) p) j' out') (read_origin p x.stands l reads) from_there n)
+          pub write_onward : (o : ℕ) → o ≡ l.origin → (l.origin ≡ no_origin → ⊥) → (s : ℕ) → s ≡ stations t → (depth_at t memory i o < depth_at t memory i p) × Writing t w memory i v later k out₀ o (leb s p) j' out'
+          write_onward o f n s e = rw e (subst (λ (q : ℕ). (depth_at t memory i q < depth_at t memory i p) × Writing t w memory i v later k out₀ q (leb (stations t) p) j' out') (origin_is p x.stands l reads o f n) (from_there (λ z. n (sym (read_origin p x.stands l reads) ∙ z))))

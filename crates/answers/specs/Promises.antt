@@ -39,10 +39,10 @@ pub data RowsRefused (t : Table) (m : ℕ) (memory : List Label) (v : ℕ) (e : 
 
 -- ---- the promises
 
-abbrev pub Arrived : Table → ℕ → ℕ → List Label → ℕ → ℕ → Result (ℕ × ℕ) Refusal → Type 0
+abbrev pub Arrived : Table → ℕ → ℕ → List Label → ℕ → ℕ → Result Pair Refusal → Type 0
 Arrived t s m memory v n r =
     MatchResult r
-    (λ x. (asked t s m v n (length memory) ≡ None) × AllOwn t m memory v × IsArrive t m memory v n x.0 x.1)
+    (λ x. (asked t s m v n (length memory) ≡ None) × AllOwn t m memory v × IsArrive t m memory v n x.departure x.arrival)
     (λ e. (asked t s m v n (length memory) ≡ Some e) ⊎ ((asked t s m v n (length memory) ≡ None) × RowsRefused t m memory v e))
 
 -- 46 to 48 of a profile

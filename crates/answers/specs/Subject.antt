@@ -29,10 +29,10 @@ NoWay t s v = (d a : ℤ) → Travels t s v d a → ⊥
 
 -- ---- the answers to the three questions
 
-abbrev pub ArriveTold : Table → ℕ → List Label → ℕ → ℕ → Result (ℕ × ℕ) Refusal → Type 0
+abbrev pub ArriveTold : Table → ℕ → List Label → ℕ → ℕ → Result Pair Refusal → Type 0
 ArriveTold t s memory v n r =
     MatchResult r
-    (λ x. (asked t s (ranks t s) v n (length memory) ≡ None) × Arrives t s v n x.0 x.1)
+    (λ x. (asked t s (ranks t s) v n (length memory) ≡ None) × Arrives t s v n x.departure x.arrival)
     (λ e. (asked t s (ranks t s) v n (length memory) ≡ Some e) ⊎ ((asked t s (ranks t s) v n (length memory) ≡ None) × (e ≡ Unreachable v) × NoWay t s v))
 
 abbrev pub ProfileTold : Table → ℕ → List Label → ℕ → List Pair → Result ℕ Refusal → List Pair → Type 0

@@ -24,7 +24,7 @@ JourneyPinned = (t : Table) → Lawful t → (m : ℕ) (memory : List Label) (v 
 
 -- of rows that a search wrote, what the questions promise is what all itineraries say
 abbrev pub ArriveTells : Type 0
-ArriveTells = (t : Table) → Lawful t → (s v n : ℕ) (memory : List Label) (r : Result (ℕ × ℕ) Refusal) → Rows t s memory → Arrived t s (ranks t s) memory v n r → ArriveTold t s memory v n r
+ArriveTells = (t : Table) → Lawful t → (s v n : ℕ) (memory : List Label) (r : Result Pair Refusal) → Rows t s memory → Arrived t s (ranks t s) memory v n r → ArriveTold t s memory v n r
 
 abbrev pub ProfileTells : Type 0
 ProfileTells = (t : Table) → Lawful t → (s v : ℕ) (memory : List Label) (out out' : List Pair) (r : Result ℕ Refusal) → Rows t s memory → Profiled t s (ranks t s) memory v out r out' → ProfileTold t s memory v out r out'

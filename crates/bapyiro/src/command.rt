@@ -1,24 +1,43 @@
 //! The commands, and how they are read from the arguments.
 
 use crate::failure::Failure;
-use std::alloc::Global;
-use std::env;
+use std::alloc::{AllocError, Global};
+use std::str::FromStr;
+use timetable::Station;
 
 /// A make of queue.
-#[derive(Clone, Copy)]
+#[derive(Clone, Copy, Default, PartialEq, Eq)]
 pub enum Make {
+    #[default]
     Heap,
     Buckets,
 }
 
-#[derive(Drop)]
-pub enum Command {
+/// A word that is no make of queue.
+#[derive(Clone, Copy)]
+pub struct UnknownMake;
+
+impl FromStr for Make {
+    type Err = UnknownMake;
+
+    fn from_str(word: &str) -> Result<Make, UnknownMake> {
+        match word {
+            "heap" => Ok(Make::Heap),
+            "bucket" => Ok(Make::Buckets),
+            _ => Err(UnknownMake),
+        }
+    }
+}
+
+/// A command with its arguments.
+#[derive(Clone, Copy)]
+pub enum Command<'a> {
     Demo,
-    Check(String),
-    Show(String),
-    Write(String, String),
-    Search(String, u16, Make),
-    Run(String, String),
+    Check(&'a str),
+    Show(&'a str),
+    Write(&'a str, &'a str),
+    Search(&'a str, Station, Make),
+    Run(&'a str, &'a str),
     Help,
 }
 
@@ -37,74 +56,53 @@ pub(crate) fn help(rt: &HostRuntime) -> Result<(), Failure> {
     Ok(())
 }
 
-/// The command that the arguments ask for.
-pub(crate) fn read(rt: &HostRuntime) -> Result<Command, Failure> {
-    let mut words = env::args(rt)?;
-    let _program = words.next();
-    let Some(name) = words.next() else {
-        return Err(Failure::Arguments(String::from_str(rt.alloc(), "no command")?));
-    };
-    let first = words.next();
-    let second = words.next();
-    let third = words.next();
-    if words.next().is_some() {
-        return Err(too_many(rt.alloc(), name.as_str()));
-    }
-    parse(rt.alloc(), name.as_str(), first, second, third)
-}
-
-fn too_many(heap: Global, name: &str) -> Failure {
-    match format!(in heap; "too many arguments for '{name}'") {
-        Ok(text) => Failure::Arguments(text),
-        Err(_) => Failure::Memory,
-    }
+/// An argument that is parsed; where it cannot be, the failure says what it is not.
+// A number may begin with `+` here; those of a script are digits only, so a function of its own reads them.
+fn argument<T: FromStr>(heap: Global, word: &str, what: &str) -> Result<T, Failure>
+where
+    T::Err: Drop,
+{
+    word.parse::<T>().try_map_err(|_| {
+        Ok(Failure::Arguments(format!(in heap; "'{word}' is no {what}")?))
+    })
 }
 
 /// The station of a number.
-fn station(heap: Global, word: &str) -> Result<u16, Failure> {
-    match word.parse::<u16>() {
-        Ok(number) => Ok(number),
-        Err(_) => Err(Failure::Arguments(format!(in heap; "'{word}' is no number of a station")?)),
-    }
+fn station(heap: Global, word: &str) -> Result<Station, Failure> {
+    argument(heap, word, "number of a station").map(Station)
 }
 
-/// The make of queue of a name.
-fn make_of(heap: Global, word: &str) -> Result<Make, Failure> {
-    match word {
-        "heap" => Ok(Make::Heap),
-        "bucket" => Ok(Make::Buckets),
-        _ => Err(Failure::Arguments(format!(in heap; "'{word}' is no make of queue")?)),
-    }
+/// Why these words, a name and its arguments, are no command.
+fn no_command(heap: Global, words: &[&str]) -> Result<Failure, AllocError> {
+    let what = match *words {
+        [] => String::from_str(heap, "no command")?,
+        [name, _, _, _, _, ..] => format!(in heap; "too many arguments for '{name}'")?,
+        [
+            name @ ("demo" | "help" | "check" | "show" | "write" | "search" | "run"),
+            ..
+        ] => { format!(in heap; "wrong arguments for '{name}'")? }
+        [name, ..] => format!(in heap; "no command '{name}'")?,
+    };
+    Ok(Failure::Arguments(what))
 }
 
-/// The command of a name and at most three arguments.
-fn parse(
-    heap: Global,
-    name: &str,
-    first: Option<String>,
-    second: Option<String>,
-    third: Option<String>,
-) -> Result<Command, Failure> {
-    match (name, first, second, third) {
-        ("demo", None, None, None) => Ok(Command::Demo),
-        ("help", None, None, None) => Ok(Command::Help),
-        ("check", Some(image), None, None) => Ok(Command::Check(image)),
-        ("show", Some(image), None, None) => Ok(Command::Show(image)),
-        ("write", Some(image), Some(out), None) => Ok(Command::Write(image, out)),
-        ("run", Some(image), Some(script), None) => Ok(Command::Run(image, script)),
-        ("search", Some(image), Some(from), None) => Ok(Command::Search(
-            image,
-            station(heap, from.as_str())?,
-            Make::Heap,
-        )),
-        ("search", Some(image), Some(from), Some(queue)) => Ok(Command::Search(
-            image,
-            station(heap, from.as_str())?,
-            make_of(heap, queue.as_str())?,
-        )),
-        ("demo" | "help" | "check" | "show" | "write" | "search" | "run", _, _, _) => {
-            Err(Failure::Arguments(format!(in heap; "wrong arguments for '{name}'")?))
+/// The command that the words ask for.
+pub(crate) fn read<'a>(heap: Global, words: &[&'a str]) -> Result<Command<'a>, Failure> {
+    match *words {
+        ["demo"] => Ok(Command::Demo),
+        ["help"] => Ok(Command::Help),
+        ["check", image] => Ok(Command::Check(image)),
+        ["show", image] => Ok(Command::Show(image)),
+        ["write", image, out] => Ok(Command::Write(image, out)),
+        ["run", image, script] => Ok(Command::Run(image, script)),
+        ["search", image, from] => {
+            Ok(Command::Search(image, station(heap, from)?, Make::default()))
         }
-        _ => Err(Failure::Arguments(format!(in heap; "no command '{name}'")?)),
+        ["search", image, from, make] => Ok(Command::Search(
+            image,
+            station(heap, from)?,
+            argument(heap, make, "make of queue")?,
+        )),
+        _ => Err(no_command(heap, words)?),
     }
 }

@@ -1,53 +1,44 @@
 //! The worked example: timetable A from plain numbers to an image and back.
 
-use crate::failure::Failure;
+use crate::failure::{Failure, of_file};
+use crate::files::opened;
 use draft::examples::example_a;
-use image::{Image, write};
+use image::write;
 use listing::{counts, listing};
-use refusals::Refusal;
-use std::alloc::{AllocError, Global};
+use std::fmt;
 
-/// The bytes in hexadecimal, sixteen to a line.
-fn dump(heap: Global, bytes: &[u8]) -> Result<String, AllocError> {
-    let mut text = String::new(heap);
-    for (place, byte) in bytes.iter().enumerate() {
-        if place % 16 == 0 {
-            text.push_str(format!(in heap; "\n  {place:4}:")?.as_str())?;
+/// Bytes in hexadecimal, sixteen to a line.
+#[derive(Clone, Copy)]
+struct Dump<'a>(&'a [u8]);
+
+impl fmt::Display for Dump<'_> {
+    fn fmt<W: fmt::Write>(&self, f: &mut fmt::Formatter<W>) -> fmt::Result {
+        for (place, line) in (0..self.0.len()).step_by(16).zip(self.0.chunks(16)) {
+            write!(f, "\n  {place:4}:")?;
+            for byte in line {
+                write!(f, " {byte:02x}")?;
+            }
         }
-        text.push_str(format!(in heap; " {byte:02x}")?.as_str())?;
-    }
-    Ok(text)
-}
-
-fn refused(heap: Global, refusal: Refusal) -> Failure {
-    match String::from_str(heap, "timetable A") {
-        Ok(name) => Failure::Refused(name, refusal),
-        Err(_) => Failure::Memory,
+        Ok(())
     }
 }
 
 /// Builds the image, opens it, lists it, writes it out again and compares the bytes, and prints each step.
 pub(crate) fn run(rt: &HostRuntime) -> Result<(), Failure> {
     let heap = rt.alloc();
+    let name = "timetable A";
     let draft = example_a(heap)?;
     let bytes = draft.bytes();
     let length = bytes.len();
-    println!(rt;
-        "build timetable A as an image: {length} bytes{}",
-        dump(heap, bytes)?
-    )?;
-    let mut image = Image::smallest();
-    if let Err(refusal) = image.open(bytes) {
-        return Err(refused(heap, refusal));
-    }
+    let dump = Dump(bytes);
+    println!(rt; "build {name} as an image: {length} bytes{dump}")?;
+    let image = opened(heap, name, bytes)?;
     println!(rt; "open it: {}", counts(heap, &image)?)?;
     rt.println("list it:")?;
     rt.print(listing(heap, &image)?)?;
     let mut out = vec![in heap; 0; length]?;
-    match write(&image, out.as_mut_slice()) {
-        Ok(written) => println!(rt; "write it out again: {written} bytes")?,
-        Err(refusal) => return Err(refused(heap, refusal)),
-    }
+    let written = of_file(heap, name, write(&image, out.as_mut_slice()))?;
+    println!(rt; "write it out again: {written} bytes")?;
     let same = if out.as_slice() == bytes {
         "the same"
     } else {

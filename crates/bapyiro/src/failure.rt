@@ -1,54 +1,41 @@
 //! Why a command was not carried out, in one line.
 
 use refusals::Refusal;
-use std::alloc::{AllocError, AllocFailed};
-use std::{fmt, io};
+use std::alloc::{AllocError, Global};
+use std::io;
+use thiserror::Error;
 
-#[derive(Drop)]
+#[derive(Debug, Drop, Error)]
 pub enum Failure {
     /// no such command, or not its arguments
+    #[error("{0}; 'bapyiro help' lists the commands")]
     Arguments(String),
-    /// a file that could not be read or written
-    File(String, io::Error),
-    /// an image that was refused
-    Refused(String, Refusal),
+    /// a file, and what went wrong with it
+    #[error("{0}: {1}")]
+    File(String, Fault),
     /// standard output, or an argument that is no text
-    Io(io::Error),
-    Memory,
+    #[error(transparent)]
+    Io(#[from] io::Error),
+    #[error("out of memory")]
+    Memory(#[from(alloc)] AllocError),
 }
 
-impl fmt::Display for Failure {
-    fn fmt<W: fmt::Write>(&self, f: &mut fmt::Formatter<W>) -> fmt::Result {
-        match self {
-            Failure::Arguments(what) => write!(f, "{what}; 'bapyiro help' lists the commands"),
-            Failure::File(path, error) => write!(f, "{path}: {error}"),
-            Failure::Refused(path, refusal) => write!(f, "{path}: {refusal}"),
-            Failure::Io(error) => write!(f, "{error}"),
-            Failure::Memory => write!(f, "out of memory"),
-        }
-    }
+/// What went wrong with a file.
+#[derive(Debug, Drop, Error)]
+pub enum Fault {
+    /// it could not be read or written
+    #[error(transparent)]
+    Io(#[from] io::Error),
+    /// it is an image that was refused, or that a call on it refused
+    #[error(transparent)]
+    Refused(#[from] Refusal),
 }
 
-impl fmt::Debug for Failure {
-    fn fmt<W: fmt::Write>(&self, f: &mut fmt::Formatter<W>) -> fmt::Result {
-        write!(f, "{self}")
-    }
-}
-
-impl From<AllocError> for Failure {
-    fn from(_error: AllocError) -> Failure {
-        Failure::Memory
-    }
-}
-
-impl<T: Drop> From<AllocFailed<T>> for Failure {
-    fn from(_error: AllocFailed<T>) -> Failure {
-        Failure::Memory
-    }
-}
-
-impl From<io::Error> for Failure {
-    fn from(error: io::Error) -> Failure {
-        Failure::Io(error)
-    }
+/// What was done with a file; where it failed, the failure names the file.
+pub(crate) fn of_file<T, E: Into<Fault> + Drop>(
+    heap: Global,
+    path: &str,
+    outcome: Result<T, E>,
+) -> Result<T, Failure> {
+    outcome.try_map_err(|error| Ok(Failure::File(String::from_str(heap, path)?, error.into())))
 }

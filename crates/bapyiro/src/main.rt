@@ -1,4 +1,4 @@
-//! `bapyiro`: reads, checks, lists and writes packed timetables, and shows what the engine does.
+//! `bapyiro`: reads, checks, lists, writes and searches packed timetables, and carries out scripts.
 
 #![tactic(auto)]
 
@@ -6,6 +6,7 @@ mod command;
 mod demo;
 mod failure;
 mod files;
+mod lending;
 mod printing;
 mod running;
 mod script;
@@ -13,16 +14,20 @@ mod searching;
 
 use command::Command;
 use failure::Failure;
+use std::env;
 use std::process::ExitCode;
 
 fn run(rt: &HostRuntime) -> Result<(), Failure> {
-    match command::read(rt)? {
+    let heap = rt.alloc();
+    let arguments: Vec<String> = env::args(rt)?.skip(1).collect(heap)?;
+    let words: Vec<&str> = arguments.iter().map(|word| word.as_str()).collect(heap)?;
+    match command::read(heap, words.as_slice())? {
         Command::Demo => demo::run(rt),
-        Command::Check(image) => files::check(rt, image.as_str()),
-        Command::Show(image) => files::show(rt, image.as_str()),
-        Command::Write(image, out) => files::write(rt, image.as_str(), out.as_str()),
-        Command::Search(image, from, make) => searching::run(rt, image.as_str(), from, make),
-        Command::Run(image, script) => running::run(rt, image.as_str(), script.as_str()),
+        Command::Check(image) => files::check(rt, image),
+        Command::Show(image) => files::show(rt, image),
+        Command::Write(image, out) => files::write(rt, image, out),
+        Command::Search(image, from, make) => searching::run(rt, image, from, make),
+        Command::Run(image, script) => running::run(rt, image, script),
         Command::Help => command::help(rt),
     }
 }

@@ -1,132 +1,94 @@
-//! Answers as plain numbers, for programs to read.
+//! The answers of a run, with moments as plain minutes.
 
 use crate::failure::Failure;
 use crate::running::Carried;
-use refusals::Refusal;
-use replay::{Answer, Call, Order};
-use std::alloc::{AllocError, Global};
-use timetable::{Leg, Pair};
+use crate::script::Spelled;
+use replay::{Answer, Order};
+use search::Found;
+use std::fmt;
+use timetable::{ConnectionNo, Leg, Pair, Train};
 
-/// A call as a script has it.
-fn call_text(heap: Global, call: Call) -> Result<String, AllocError> {
-    match call {
-        Call::Cancel(train) => {
-            let z = train.0;
-            format!(in heap; "cancel {z}")
+/// The answer to a call, with what it wrote.
+#[derive(Clone, Copy)]
+struct Told<'a> {
+    order: &'a Order,
+    answer: &'a Answer,
+    carried: &'a Carried,
+}
+
+impl Told<'_> {
+    /// Writes the pairs that a profile gave, each on a line.
+    fn pairs<W: fmt::Write>(&self, f: &mut fmt::Formatter<W>, count: usize) -> fmt::Result {
+        for pair in self.carried.pairs.iter().skip(self.order.from).take(count) {
+            let Pair { departure, arrival } = *pair;
+            write!(f, "\n  {departure} {arrival}")?;
         }
-        Call::Late(train, delay) => {
-            let z = train.0;
-            format!(in heap; "late {z} {delay}")
+        Ok(())
+    }
+
+    /// Writes the legs that a journey gave, each on a line.
+    fn legs<W: fmt::Write>(&self, f: &mut fmt::Formatter<W>, count: usize) -> fmt::Result {
+        for leg in self.carried.legs.iter().skip(self.order.from).take(count) {
+            let Leg {
+                train: Train(train),
+                first: ConnectionNo(first),
+                last: ConnectionNo(last),
+                departure,
+                arrival,
+            } = *leg;
+            write!(
+                f,
+                "\n  train {train}, connections {first} to {last}, {departure} to {arrival}"
+            )?;
         }
-        Call::Lift(train) => {
-            let z = train.0;
-            format!(in heap; "lift {z}")
-        }
-        Call::Search(source) => {
-            let s = source.0;
-            format!(in heap; "search {s}")
-        }
-        Call::Arrive(target, minute) => {
-            let v = target.0;
-            format!(in heap; "arrive {v} {minute}")
-        }
-        Call::Profile(target) => {
-            let v = target.0;
-            format!(in heap; "profile {v}")
-        }
-        Call::Journey(target, minute) => {
-            let v = target.0;
-            format!(in heap; "journey {v} {minute}")
-        }
+        Ok(())
     }
 }
 
-fn print_refusal(rt: &HostRuntime, call: &str, refusal: Refusal) -> Result<(), Failure> {
-    let number = refusal.number();
-    let layer = refusal.layer();
-    let item = refusal.item();
-    println!(rt; "{call}: refused {number}, layer {layer}, item {item}")?;
-    Ok(())
-}
-
-fn print_pairs(
-    rt: &HostRuntime,
-    call: &str,
-    count: usize,
-    from: usize,
-    pairs: &[Pair],
-) -> Result<(), Failure> {
-    println!(rt; "{call}: {count} pairs")?;
-    for pair in pairs.iter().skip(from).take(count) {
-        let departure = pair.departure;
-        let arrival = pair.arrival;
-        println!(rt; "  {departure} {arrival}")?;
+impl fmt::Display for Told<'_> {
+    fn fmt<W: fmt::Write>(&self, f: &mut fmt::Formatter<W>) -> fmt::Result {
+        let call = Spelled(self.order.call);
+        match *self.answer {
+            Answer::Noted(Ok(())) => write!(f, "{call}: done"),
+            Answer::Searched(Ok(Found { departures, labels })) => {
+                write!(
+                    f,
+                    "{call}: {departures} first departures, {labels} leading labels"
+                )
+            }
+            Answer::Arrived(Ok(Pair { departure, arrival })) => write!(
+                f,
+                "{call}: {departure} {arrival}"
+            ),
+            Answer::Profiled(Ok(count)) => {
+                write!(f, "{call}: {count} pairs")?;
+                self.pairs(f, count)
+            }
+            Answer::Travelled(Ok(count)) => {
+                write!(f, "{call}: {count} legs")?;
+                self.legs(f, count)
+            }
+            // every kind of answer holds its own result, and one arm serves the refusals of all
+            Answer::Noted(Err(refusal))
+            | Answer::Searched(Err(refusal))
+            | Answer::Arrived(Err(refusal))
+            | Answer::Profiled(Err(refusal))
+            | Answer::Travelled(Err(refusal)) => {
+                let (number, layer, item) = refusal.told();
+                write!(f, "{call}: refused {number}, layer {layer}, item {item}")
+            }
+        }
     }
-    Ok(())
-}
-
-fn print_leg(rt: &HostRuntime, leg: &Leg) -> Result<(), Failure> {
-    let train = leg.train.0;
-    let first = leg.first.0;
-    let last = leg.last.0;
-    let departure = leg.departure;
-    let arrival = leg.arrival;
-    println!(rt; "  train {train}, connections {first} to {last}, {departure} to {arrival}")?;
-    Ok(())
-}
-
-fn print_legs(
-    rt: &HostRuntime,
-    call: &str,
-    count: usize,
-    from: usize,
-    legs: &[Leg],
-) -> Result<(), Failure> {
-    println!(rt; "{call}: {count} legs")?;
-    for leg in legs.iter().skip(from).take(count) {
-        print_leg(rt, leg)?;
-    }
-    Ok(())
-}
-
-/// Prints the answer to one call.
-fn print_answer(
-    rt: &HostRuntime,
-    order: &Order,
-    answer: &Answer,
-    carried: &Carried,
-) -> Result<(), Failure> {
-    let text = call_text(rt.alloc(), order.call)?;
-    let call = text.as_str();
-    match *answer {
-        Answer::Noted(Ok(_)) => println!(rt; "{call}: done")?,
-        Answer::Searched(Ok(found)) => {
-            let departures = found.departures;
-            let labels = found.labels;
-            println!(rt; "{call}: {departures} first departures, {labels} leading labels")?
-        }
-        Answer::Arrived(Ok((departure, arrival))) => {
-            println!(rt; "{call}: {departure} {arrival}")?
-        }
-        Answer::Profiled(Ok(count)) => {
-            print_pairs(rt, call, count, order.from, carried.pairs.as_slice())?
-        }
-        Answer::Travelled(Ok(count)) => {
-            print_legs(rt, call, count, order.from, carried.legs.as_slice())?
-        }
-        Answer::Noted(Err(refusal))
-        | Answer::Searched(Err(refusal))
-        | Answer::Arrived(Err(refusal))
-        | Answer::Profiled(Err(refusal))
-        | Answer::Travelled(Err(refusal)) => print_refusal(rt, call, refusal)?,
-    }
-    Ok(())
 }
 
 /// Prints an answer for each call, in their order.
 pub(crate) fn print_answers(rt: &HostRuntime, carried: &Carried) -> Result<(), Failure> {
     for (order, answer) in carried.orders.iter().zip(carried.answers.iter()) {
-        print_answer(rt, order, answer, carried)?;
+        rt.println(Told {
+            order,
+            answer,
+            carried,
+        })?;
     }
     Ok(())
 }

@@ -6,7 +6,10 @@
 use crate::command::Make;
 use crate::failure::Failure;
 use replay::Call;
+use search::Limits;
 use std::alloc::Global;
+use std::fmt;
+use std::str::FromStr;
 use timetable::{Station, Train};
 
 /// What is lent to each call, at most: the make of the queues, their capacities, the entries of the label memory and of an
@@ -14,17 +17,18 @@ use timetable::{Station, Train};
 #[derive(Clone, Copy)]
 pub struct Settings {
     pub make: Make,
-    pub board: usize,
-    pub labels: usize,
+    pub limits: Limits,
     pub memory: usize,
     pub room: usize,
 }
 
-/// Until something is set: heaps, and as much as is needed.
+/// Until something is set: heaps, and as much as is needed: each number is an upper limit, and the largest limits nothing.
 pub const UNSET: Settings = Settings {
     make: Make::Heap,
-    board: usize::MAX,
-    labels: usize::MAX,
+    limits: Limits {
+        board: usize::MAX,
+        labels: usize::MAX,
+    },
     memory: usize::MAX,
     room: usize::MAX,
 };
@@ -36,120 +40,64 @@ pub struct Entry {
     pub settings: Settings,
 }
 
-/// What a line says.
-enum Line {
-    Nothing,
-    Set(Settings),
-    Call(Call),
+/// A decimal number. Only digits are taken, no sign.
+// The arguments of a command are parsed as they are, with a `+` if there is one, so this is a function of its own.
+fn number<N: FromStr>(word: &str) -> Option<N>
+where
+    N::Err: Drop,
+{
+    if word.bytes().all(|b| b.is_ascii_digit()) {
+        word.parse::<N>().ok()
+    } else {
+        None
+    }
 }
 
-/// A decimal number.
-fn number(word: &str) -> Option<u64> {
-    for b in word.bytes() {
-        if !b.is_ascii_digit() {
-            return None;
+/// The call of a line's words. It is no `FromStr`, since a line is split once, for calls and settings alike.
+fn call_of(words: &[&str]) -> Option<Call> {
+    Some(match *words {
+        ["cancel", train] => Call::Cancel(Train(number(train)?)),
+        ["late", train, delay] => Call::Late(Train(number(train)?), number(delay)?),
+        ["lift", train] => Call::Lift(Train(number(train)?)),
+        ["search", source] => Call::Search(Station(number(source)?)),
+        ["arrive", target, minute] => Call::Arrive(Station(number(target)?), number(minute)?),
+        ["profile", target] => Call::Profile(Station(number(target)?)),
+        ["journey", target, minute] => Call::Journey(Station(number(target)?), number(minute)?),
+        _ => return None,
+    })
+}
+
+/// A call as a script has it.
+#[derive(Clone, Copy)]
+pub struct Spelled(pub Call);
+
+impl fmt::Display for Spelled {
+    fn fmt<W: fmt::Write>(&self, f: &mut fmt::Formatter<W>) -> fmt::Result {
+        match self.0 {
+            Call::Cancel(Train(train)) => write!(f, "cancel {train}"),
+            Call::Late(Train(train), delay) => write!(f, "late {train} {delay}"),
+            Call::Lift(Train(train)) => write!(f, "lift {train}"),
+            Call::Search(Station(source)) => write!(f, "search {source}"),
+            Call::Arrive(Station(target), minute) => write!(f, "arrive {target} {minute}"),
+            Call::Profile(Station(target)) => write!(f, "profile {target}"),
+            Call::Journey(Station(target), minute) => write!(f, "journey {target} {minute}"),
         }
     }
-    match word.parse::<u64>() {
-        Ok(n) => Some(n),
-        Err(_) => None,
-    }
 }
 
-fn number_u16(word: &str) -> Option<u16> {
-    match u16::try_from(number(word)?) {
-        Ok(n) => Some(n),
-        Err(_) => None,
-    }
-}
-
-fn number_u32(word: &str) -> Option<u32> {
-    match u32::try_from(number(word)?) {
-        Ok(n) => Some(n),
-        Err(_) => None,
-    }
-}
-
-/// A call of one word and one number.
-fn short_call(name: &str, word: &str) -> Option<Call> {
-    let n = number_u16(word)?;
-    match name {
-        "cancel" => Some(Call::Cancel(Train(n))),
-        "lift" => Some(Call::Lift(Train(n))),
-        "search" => Some(Call::Search(Station(n))),
-        "profile" => Some(Call::Profile(Station(n))),
-        _ => None,
-    }
-}
-
-/// A call of one word and two numbers.
-fn long_call(name: &str, first: &str, second: &str) -> Option<Call> {
-    let n = number_u16(first)?;
-    match name {
-        "late" => Some(Call::Late(Train(n), number_u16(second)?)),
-        "arrive" => Some(Call::Arrive(Station(n), number_u32(second)?)),
-        "journey" => Some(Call::Journey(Station(n), number_u32(second)?)),
-        _ => None,
-    }
-}
-
-/// The settings after a setting.
-fn set(settings: Settings, name: &str, word: &str) -> Option<Settings> {
-    match (name, word) {
-        ("queues", "heap") => {
-            return Some(Settings {
-                make: Make::Heap,
-                ..settings
-            });
+impl Settings {
+    /// The settings after the setting of a line's words.
+    fn with(mut self, words: &[&str]) -> Option<Settings> {
+        match *words {
+            ["queues", make] => self.make = make.parse::<Make>().ok()?,
+            ["board", entries] => self.limits.board = number(entries)?,
+            ["labels", entries] => self.limits.labels = number(entries)?,
+            ["memory", entries] => self.memory = number(entries)?,
+            ["room", entries] => self.room = number(entries)?,
+            _ => return None,
         }
-        ("queues", "bucket") => {
-            return Some(Settings {
-                make: Make::Buckets,
-                ..settings
-            });
-        }
-        _ => {}
+        Some(self)
     }
-    let n = number(word)? as usize;
-    match name {
-        "board" => Some(Settings {
-            board: n,
-            ..settings
-        }),
-        "labels" => Some(Settings {
-            labels: n,
-            ..settings
-        }),
-        "memory" => Some(Settings {
-            memory: n,
-            ..settings
-        }),
-        "room" => Some(Settings {
-            room: n,
-            ..settings
-        }),
-        _ => None,
-    }
-}
-
-/// What a line says, at these settings; none where it says nothing that is known.
-fn read_line(settings: Settings, text: &str) -> Option<Line> {
-    if text.is_empty() || text.starts_with('#') {
-        return Some(Line::Nothing);
-    }
-    let mut words = text.split(' ');
-    let name = words.next()?;
-    let first = words.next()?;
-    let Some(second) = words.next() else {
-        return match short_call(name, first) {
-            Some(call) => Some(Line::Call(call)),
-            None => Some(Line::Set(set(settings, name, first)?)),
-        };
-    };
-    if words.next().is_some() {
-        return None;
-    }
-    Some(Line::Call(long_call(name, first, second)?))
 }
 
 /// The calls of a script, each with the settings at its line.
@@ -157,15 +105,19 @@ pub(crate) fn read(heap: Global, path: &str, text: &str) -> Result<Vec<Entry>, F
     let mut entries = Vec::new(heap);
     let mut settings = UNSET;
     for (place, line) in text.lines().enumerate() {
-        match read_line(settings, line) {
-            Some(Line::Nothing) => {}
-            Some(Line::Set(more)) => settings = more,
-            Some(Line::Call(call)) => entries.push(Entry { call, settings })?,
+        if line.is_empty() || line.starts_with('#') {
+            continue;
+        }
+        let words: Vec<&str> = line.split(' ').collect(heap)?;
+        match call_of(words.as_slice()) {
+            Some(call) => entries.push(Entry { call, settings })?,
             None => {
-                let number = place.saturating_add(1);
-                return Err(Failure::Arguments(format!(in heap;
-                    "{path}: line {number}: no call and no setting: '{line}'"
-                )?));
+                settings = settings.with(words.as_slice()).try_ok_or_else(|| {
+                    let number = place.saturating_add(1);
+                    Ok(Failure::Arguments(format!(in heap;
+                        "{path}: line {number}: no call and no setting: '{line}'"
+                    )?))
+                })?
             }
         }
     }

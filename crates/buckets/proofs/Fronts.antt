@@ -1,7 +1,6 @@
 -- The search for the bucket to take from.
-use Rattle.std.proofs.Common.{◌≡◌, ℕ, ◌+◌, ◌%◌, ◌<◌, ◌≤◌, Bool, true, false, ltb, ◌⊎◌, List, length, get_or, MatchBool, sym, ap, ◌∙◌, subst, inl, inr, ⊎_elim, arith}
-use Rattle.std.proofs.lemmas.Bool.{cases_eq, cases_lt, ltb-true, ltb-false}
-use Rattle.std.proofs.lemmas.List.{get_or-map}
+use Rattle.std.proofs.Common.{◌≡◌, ℕ, ◌+◌, ◌%◌, ◌<◌, ◌≤◌, Bool, true, false, ◌⊎◌, List, get_or, ap, ◌∙◌, inl, inr, ⊎_elim, arith}
+use Rattle.std.proofs.lemmas.Bool.{cases_eq, cases_lt}
 use Rattle.buckets.specs.declared.chain.Cell.{Cell}
 use Rattle.queue.specs.Order.{Sound}
 use Rattle.buckets.specs.Bitmap.{occupied, Clear, First}
@@ -21,11 +20,6 @@ next_round : (low b k x y : ℕ) → x % 256 ≡ b → y % 256 ≡ k → low ≤
 next_round low b k x y ex ey lx ly hx far lt = omega arith
 
 module _ {X : Type 0} {ahead : X → X → Bool} {minute_of : X → ℕ} (o : Sound ahead minute_of) where
-  pub leads_says : (cs : List (Cell X)) (x y : ℕ) (c c' : Cell X) (r : Bool) → x < length cs → y < length cs → r ≡ ahead (get_or cs x c).entry (get_or cs y c').entry
-      → MatchBool r ((d : X) → ahead (get_or (entries cs) x d) (get_or (entries cs) y d) ≡ true) ((d : X) → x < length cs → y < length cs → ahead (get_or (entries cs) x d) (get_or (entries cs) y d) ≡ false)
-  leads_says cs x y c c' true xl yl q = λ d. (λ i. ahead (get_or-map (λ (c : Cell X). c.entry) cs x c d xl i) (get_or-map (λ (c : Cell X). c.entry) cs y c' d yl i)) ∙ sym q
-  leads_says cs x y c c' false xl yl q = λ d _ _. (λ i. ahead (get_or-map (λ (c : Cell X). c.entry) cs x c d xl i) (get_or-map (λ (c : Cell X). c.entry) cs y c' d yl i)) ∙ sym q
-
   -- b leads among the buckets below `to`
   pub record Among (cs : List (Cell X)) (bits first : List ℕ) (to b : ℕ) : Type 0 where
     pub known : b < 256
@@ -33,16 +27,6 @@ module _ {X : Type 0} {ahead : X → X → Bool} {minute_of : X → ℕ} (o : So
     pub best : (k : ℕ) → k < to → occupied bits k ≡ 1 → (d : X) → ahead (get_or (entries cs) (get_or first k 0) d) (get_or (entries cs) (get_or first b 0) d) ≡ false
 
   module _ (cs : List (Cell X)) (bits first : List ℕ) where
-    pub among_one : (b : ℕ) → First (occupied bits) 0 256 b → Among cs bits first (b + 1) b
-    among_one b f = record {
-      known = f.below;
-      holds = f.one;
-      best = λ k l oc d. ⊎_elim
-          (λ (q : k ≡ b). ap (λ m. ahead (get_or (entries cs) (get_or first m 0) d) (get_or (entries cs) (get_or first b 0) d)) q ∙ never o _)
-          (λ ne. absurd (let z = f.before k (omega arith) (omega arith) in omega arith))
-          (cases_eq k b);
-    }
-
     pub among_new : (from b b' : ℕ) → First (occupied bits) from 256 b' → ((d : X) → ahead (get_or (entries cs) (get_or first b' 0) d) (get_or (entries cs) (get_or first b 0) d) ≡ true) → Among cs bits first from b → Among cs bits first (b' + 1) b'
     among_new from b b' f t w = record {
       known = f.below;
@@ -70,34 +54,7 @@ module _ {X : Type 0} {ahead : X → X → Bool} {minute_of : X → ℕ} (o : So
       best = λ k l oc d. ⊎_elim (λ (lt : k < from). w.best k lt oc d) (λ (ge : from ≤ k). absurd (let z = h k ge l in omega arith)) (cases_lt k from);
     }
 
-  pub before_says : (cs : List (Cell X)) (x bound : ℕ) (c : Cell X) (m : ℕ) (r : Bool) → x < length cs → m ≡ minute_of (get_or cs x c).entry → r ≡ ltb m bound
-      → MatchBool r ((d : X) → minute_of (get_or (entries cs) x d) < bound) ((d : X) → x < length cs → bound ≤ minute_of (get_or (entries cs) x d))
-  before_says cs x bound c m true lt e q = λ d. let t = ltb-true m bound (sym q) in let g = ap minute_of (get_or-map (λ (c : Cell X). c.entry) cs x c d lt) in omega arith
-  before_says cs x bound c m false lt e q = λ d _. let t = ltb-false m bound (sym q) in let g = ap minute_of (get_or-map (λ (c : Cell X). c.entry) cs x c d lt) in omega arith
-
   module _ (cs : List (Cell X)) (bits first : List ℕ) where
-    -- one bucket more that is far
-    pub far_more : (bound from at b : ℕ) → First (occupied bits) at 256 b → ((d : X) → bound ≤ minute_of (get_or (entries cs) (get_or first b 0) d)) → Far minute_of cs bits first bound from at → Far minute_of cs bits first bound from (b + 1)
-    far_more bound from at b f here h = λ k lo hi oc d. ⊎_elim
-        (λ (q : k ≡ b). subst (λ m. bound ≤ minute_of (get_or (entries cs) (get_or first m 0) d)) (sym q) (here d))
-        (λ ne. ⊎_elim (λ (lt : k < at). h k lo lt oc d) (λ (ge : at ≤ k). absurd (let z = f.before k ge (omega arith) in omega arith)) (cases_lt k at))
-        (cases_eq k b)
-
-    -- no bucket is left
-    pub far_rest : (bound from at to : ℕ) → Clear (occupied bits) at to → Far minute_of cs bits first bound from at → Far minute_of cs bits first bound from to
-    far_rest bound from at to c h = λ k lo hi oc d. ⊎_elim (λ (lt : k < at). h k lo lt oc d) (λ (ge : at ≤ k). absurd (let z = c k ge hi in omega arith)) (cases_lt k at)
-
-    -- the bucket found is the first from `from` on
-    pub near_here : (bound from at to b : ℕ) → from ≤ at → b < to → First (occupied bits) at 256 b → ((d : X) → minute_of (get_or (entries cs) (get_or first b 0) d) < bound) → Far minute_of cs bits first bound from at → Near minute_of cs bits first bound from to b
-    near_here bound from at to b le lt f here h = record {
-      from_on = omega (arith, f.from_on);
-      below = lt;
-      known = f.below;
-      holds = f.one;
-      near = here;
-      before = far_rest bound from at b f.before h;
-    }
-
     module _ (low : ℕ) (in_place : Firsts minute_of cs bits first (Lodged minute_of low)) where
       -- an entry of an earlier minute is ahead
       sooner : (x y : X) → minute_of y < minute_of x → ahead x y ≡ false

@@ -6,11 +6,12 @@ use Rattle.std.proofs.lemmas.List.{length-set, get_or_append_left, get_or_at, ge
 use Rattle.std.proofs.ByRecursion.{All-weaker}
 use Rattle.buckets.specs.declared.chain.Cell.{Cell}
 use Rattle.queue.specs.Order.{Sound, inserted, Ascends}
-use Rattle.buckets.specs.Bitmap.{bit, occupied, Clear}
+use Rattle.buckets.specs.Bitmap.{occupied, Clear}
 use Rattle.buckets.specs.Chains.{In, Chain, nexts, entries, picked, Linked}
 use Rattle.buckets.specs.Pour.{total}
 use Rattle.buckets.specs.InBuckets.{Lodged, Fine, Reserved, in_cells}
-use Rattle.buckets.proofs.Bits.{bit_low, bit_zero}
+use Rattle.std.specs.Int.{bit_at}
+use Rattle.std.proofs.lemmas.Nat.Bits.{bit_at-lt, bit_at-zero}
 use Rattle.queue.proofs.Bag.{behind, inserted-first, all_inserted, ascends_inserted}
 use Rattle.buckets.proofs.Walks.{chain_once, chain_frame, pick, picked_else, length-nexts, length-entries}
 use Rattle.buckets.proofs.Pours.{upd, upd_same, upd_else, sizes_past, sizes-upd, sizes-part, sizes-last, sizes_none, walk_is, total_same, total_insert, total_cons, all_total, total_none, total_long}
@@ -306,7 +307,7 @@ module _ {X : Type 0} {ahead : X → X → Bool} {minute_of : X → ℕ} (o : So
     chain_behind x k l f (j ∷ ks) e =
         let c : Chain (nexts cs) (get_or first k 0) (j ∷ ks) = subst (Chain (nexts cs) (get_or first k 0)) e (chain_bucket w k l) in
         let inl' : j < length (entries cs) = omega (arith, c.1, length-nexts cs, length-entries cs) in
-        let lit : occupied bits k ≡ 1 = ⊎_elim (λ (z : occupied bits k ≡ 0). absurd (let p = (w.marks k l).1 z in omega (arith, c.0, c.1, length-nexts cs))) (λ ne. omega (arith, bit_low (get_or bits (k / 64) 0) (k % 64))) (cases_eq (occupied bits k) 0) in
+        let lit : occupied bits k ≡ 1 = ⊎_elim (λ (z : occupied bits k ≡ 0). absurd (let p = (w.marks k l).1 z in omega (arith, c.0, c.1, length-nexts cs))) (λ ne. omega (arith, bit_at-lt (get_or bits (k / 64) 0) (k % 64))) (cases_eq (occupied bits k) 0) in
         behind_all x (entries cs) x j inl' ks (subst (λ m. Ascends ahead (picked (entries cs) m)) e (w.rises k l)) (subst (λ m. ahead (get_or (entries cs) m x) x ≡ false) c.0 (f x lit))
 
     ascends_from : (xs : List X) (k : ℕ) (y : X) → k < length xs → Ascends ahead (take 1 (drop k xs) ++ picked (entries cs) rest) → AllByRecursion (λ z. ahead z (get_or xs k y) ≡ false) (picked (entries cs) rest)
@@ -408,7 +409,7 @@ module _ {X : Type 0} {ahead : X → X → Bool} {minute_of : X → ℕ} (o : So
           held = sizes_none (λ _. []) 256 (λ _. refl);
           rises = λ b l. tt;
           lodged = λ b l. tt;
-          marks = λ k l. (λ z. absurd (let q = ap (λ m. occupied m k) bis in let p = get_or-replicate 4 (k / 64) 0 0 (omega arith) in let v = ap (λ m. bit m (k % 64)) p ∙ bit_zero (k % 64) in omega arith), λ z. omega (arith, far k l));
+          marks = λ k l. (λ z. absurd (let q = ap (λ m. occupied m k) bis in let p = get_or-replicate 4 (k / 64) 0 0 (omega arith) in let v = ap (λ m. bit_at m (k % 64)) p ∙ bit_at-zero (k % 64) in omega arith), λ z. omega (arith, far k l));
         }
 
     pub empty-held : in_cells ahead cs first ≡ []

@@ -1,6 +1,7 @@
 -- Chains of cells: what a walk and a splice keep.
-use Rattle.std.proofs.Common.{◌≡◌, ℕ, zero, suc, ◌+◌, ◌<◌, ◌≤◌, Bool, true, false, ◌⊎◌, List, [], ◌∷◌, ◌++◌, length, get_or, take, drop, set, MatchBool, sym, refl, ap, ◌∙◌, subst, inl, inr, ⊎_elim, append_assoc, le_of_suc-le-suc, not-suc-le-zero, arith}
+use Rattle.std.proofs.Common.{◌≡◌, ℕ, zero, suc, ◌+◌, ◌<◌, ◌≤◌, Bool, true, false, ◌⊎◌, List, [], ◌∷◌, ◌++◌, length, get_or, take, drop, set, sym, refl, ap, ◌∙◌, subst, inl, inr, ⊎_elim, append_assoc, arith}
 use Rattle.std.specs.List.{AllByRecursion}
+use Rattle.std.proofs.Math.Seq.{map-set_same}
 use Rattle.std.proofs.lemmas.List.{length-append, length-set, length-map, get_or-set_same, get_or-set_other, map-set, drop_more, get_or-map}
 use Rattle.std.proofs.ByRecursion.{All-append}
 use Rattle.buckets.specs.declared.chain.Cell.{Cell}
@@ -30,18 +31,6 @@ front_in (p ∷ pre) suf x i (inr q) = inr (front_in pre suf x i q)
 back_in : (pre suf : List ℕ) (x i : ℕ) → In i suf → In i (pre ++ x ∷ suf)
 back_in [] suf x i q = inr q
 back_in (p ∷ pre) suf x i q = inr (back_in pre suf x i q)
-
-pub keep : {X : Type 0} (xs : List X) (x : ℕ) (y : X) → x < length xs → y ≡ get_or xs x y → set xs x y ≡ xs
-keep [] x y l q = absurd (not-suc-le-zero l)
-keep (z ∷ xs) zero y l q = ap (λ w. w ∷ xs) q
-keep (z ∷ xs) (suc x) y l q = ap (λ w. z ∷ w) (keep xs x y (le_of_suc-le-suc l) q)
-
-still : {X : Type 0} (xs : List X) (x new : ℕ) (e y : X) → (x ≡ new → ⊥) → x < length xs → y ≡ get_or xs x y → set (set xs new e) x y ≡ set xs new e
-still [] x new e y n l q = absurd (not-suc-le-zero l)
-still (z ∷ xs) zero zero e y n l q = absurd (n refl)
-still (z ∷ xs) zero (suc new) e y n l q = ap (λ w. w ∷ set xs new e) q
-still (z ∷ xs) (suc x) zero e y n l q = ap (λ w. e ∷ w) (keep xs x y (le_of_suc-le-suc l) q)
-still (z ∷ xs) (suc x) (suc new) e y n l q = ap (λ w. z ∷ w) (still xs x new e y (λ p. n (ap suc p)) (le_of_suc-le-suc l) q)
 
 -- ---- chains
 
@@ -180,9 +169,6 @@ module _ {X : Type 0} {ahead : X → X → Bool} {minute_of : X → ℕ} (o : So
   pub walk_stops : (xs : List X) (ns is : List ℕ) (e : X) (x k next : ℕ) → length xs ≡ length ns → next ≡ get_or ns x 0 → (next < length ns → (d : X) → ahead (get_or xs next d) e ≡ false) → Walked xs ns is e x k → Sought ahead xs is e x
   walk_stops xs ns is e x k next len n f w = record { pre = w.pre; suf = w.suf; parts = w.parts; passed = w.passed; stops = stop_here xs ns e x next w.suf len w.chain n f }
 
-  pub walk_long : (xs : List X) (ns is : List ℕ) (e : X) (x k : ℕ) → length is ≤ k → Walked xs ns is e x k → ⊥
-  walk_long xs ns is e x k le w = omega (arith, ap length w.parts ∙ length-append w.pre (x ∷ w.suf), w.steps)
-
   front : (cs : List (Cell X)) (head : ℕ) (e : X) → ((d : X) → head < length cs → ahead (get_or (entries cs) head d) e ≡ false) → (ks : List ℕ) → Chain (nexts cs) head ks → inserted ahead e (picked (entries cs) ks) ≡ e ∷ picked (entries cs) ks
   unfolding inserted
   front cs head e f [] h = refl
@@ -219,12 +205,16 @@ module _ {X : Type 0} {ahead : X → X → Bool} {minute_of : X → ℕ} (o : So
         }
 
     -- e goes behind the cell x
-    pub linked_behind : (x : ℕ) (y : X) → y ≡ get_or (entries cs) x y → Sought ahead (entries cs) is e x → Linked ahead cs (set (set cs new (record { entry = e; next = get_or (nexts cs) x 0 })) x (record { entry = y; next = new })) is new e head
+    abbrev behind : ℕ → Cell X
+    behind x = record { entry = e; next = get_or (nexts cs) x 0 }
+
+    pub linked_behind : (x : ℕ) (d : Cell X) → Sought ahead (entries cs) is e x → Linked ahead cs (set (set cs new (behind x)) x (record { entry = (get_or (set cs new (behind x)) x d).entry; next = new })) is new e head
     unfolding splice
-    linked_behind x y yis w =
+    linked_behind x d w =
         let ns = nexts cs in
         let xs = entries cs in
         let c : Cell X = record { entry = e; next = get_or ns x 0 } in
+        let y = (get_or (set cs new c) x d).entry in
         let b : Cell X = record { entry = y; next = new } in
         let len : length ns ≡ length cs = length-map cs (λ (c : Cell X). c.next) in
         let len' : length xs ≡ length cs = length-map cs (λ (c : Cell X). c.entry) in
@@ -234,7 +224,7 @@ module _ {X : Type 0} {ahead : X → X → Bool} {minute_of : X → ℕ} (o : So
         let xlt : x < length ns = chain_below ns head x _ chain' xin in
         let ne : x ≡ new → ⊥ = λ q. out' (subst (λ m. In m (w.pre ++ x ∷ w.suf)) q xin) in
         let nis : nexts (set (set cs new c) x b) ≡ splice ns x new = map-set (λ (c : Cell X). c.next) (set cs new c) x b ∙ ap (λ l. set l x new) (map-set (λ (c : Cell X). c.next) cs new c) in
-        let eis : entries (set (set cs new c) x b) ≡ set xs new e = map-set (λ (c : Cell X). c.entry) (set cs new c) x b ∙ ap (λ l. set l x y) (map-set (λ (c : Cell X). c.entry) cs new c) ∙ still xs x new e y ne (omega arith) yis in
+        let eis : entries (set (set cs new c) x b) ≡ set xs new e = map-set_same (λ (c : Cell X). c.entry) (set cs new c) x b d refl ∙ map-set (λ (c : Cell X). c.entry) cs new c in
         let new-at = pick (set xs new e) new e (omega (arith, length-set xs new e)) ∙ ap (λ z. z ∷ []) (get_or-set_same xs new e e (omega arith)) in
         record {
           js = w.pre ++ x ∷ new ∷ w.suf;
@@ -249,17 +239,6 @@ module _ {X : Type 0} {ahead : X → X → Bool} {minute_of : X → ℕ} (o : So
           same = eis;
           frame = λ j a n. ap (λ l. get_or l j 0) nis ∙ splice_else ns x new j (λ q. a (subst (In j) (sym w.parts) (subst (λ m. In m (w.pre ++ x ∷ w.suf)) (sym q) xin))) n;
         }
-
-  pub passes_says : (cs : List (Cell X)) (x : ℕ) (e : X) (c : Cell X) (r : Bool) → x < length cs → r ≡ ahead (get_or cs x c).entry e
-      → MatchBool r ((x < length cs) × ((d : X) → ahead (get_or (entries cs) x d) e ≡ true)) ((d : X) → x < length cs → ahead (get_or (entries cs) x d) e ≡ false)
-  passes_says cs x e c true lt q = (lt, λ d. ap (λ y. ahead y e) (get_or-map (λ (c : Cell X). c.entry) cs x c d lt) ∙ sym q)
-  passes_says cs x e c false lt q = λ d _. ap (λ y. ahead y e) (get_or-map (λ (c : Cell X). c.entry) cs x c d lt) ∙ sym q
-
-pub next-at : {X : Type 0} (cs : List (Cell X)) (x : ℕ) (c : Cell X) → x < length cs → c ≡ get_or cs x c → c.next ≡ get_or (nexts cs) x 0
-next-at {X} cs x c lt q = ap (λ (c : Cell X). c.next) q ∙ sym (get_or-map (λ (c : Cell X). c.next) cs x c 0 lt)
-
-pub entry_at : {X : Type 0} (cs : List (Cell X)) (x : ℕ) (c : Cell X) (d : X) → x < length cs → c ≡ get_or cs x c → c.entry ≡ get_or (entries cs) x d
-entry_at {X} cs x c d lt q = ap (λ (c : Cell X). c.entry) q ∙ sym (get_or-map (λ (c : Cell X). c.entry) cs x c d lt)
 
 pub length-nexts : {X : Type 0} (cs : List (Cell X)) → length (nexts cs) ≡ length cs
 length-nexts {X} cs = length-map cs (λ (c : Cell X). c.next)

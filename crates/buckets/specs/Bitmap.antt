@@ -1,11 +1,9 @@
--- Bits of words, and a bit for each of 256 buckets in four words of 64.
-use Rattle.std.specs.Prelude.{◌≡◌, ℕ, ◌/◌, ◌%◌, ◌^◌, ◌<◌, ◌≤◌, List, slice_index}
-
-abbrev pub bit : ℕ → ℕ → ℕ
-bit n k = n / 2 ^ k % 2
+-- A bit for each of 256 buckets, in four words of 64.
+use Rattle.std.specs.Prelude.{◌≡◌, ℕ, ◌/◌, ◌%◌, ◌<◌, ◌≤◌, List, slice_index}
+use Rattle.std.specs.Int.{bit_at}
 
 abbrev pub occupied : List ℕ → ℕ → ℕ
-occupied words b = bit (slice_index words (b / 64)) (b % 64)
+occupied words b = bit_at (slice_index words (b / 64)) (b % 64)
 
 -- f is 0 from `from` up to `to`
 abbrev pub Clear : (ℕ → ℕ) → ℕ → ℕ → Type 0

@@ -1,15 +1,16 @@
-ghost use Rattle.std.specs.Prelude.{◌≡◌, ◌%◌, ◌<◌, [], length, MatchOption};
+ghost use Rattle.std.specs.Prelude.{◌≡◌, ◌%◌, ◌<◌, ◌≤◌, [], length, MatchOption, slice_index_or};
 ghost use Rattle.queue.specs.Order.{inserted};
 ghost use Rattle.buckets.specs.Bitmap.{occupied, Clear};
 ghost use Rattle.buckets.specs.InBuckets.{Leads, bucket_room, bucket_bag, BucketFine, BucketReserved};
 
-use crate::chain::{Cell, link};
-use crate::front::nearest;
-use crate::heads::{Heads, NONE};
+use crate::chain::{Cell, NONE, link};
+use crate::front::Front;
+use crate::heads::Heads;
 use queue::{Entry, Queue, check_room};
 use refusals::Refusal;
 
 /// A queue in the caller's cells: an entry is in the chain of its minute modulo 256.
+// The cells are lent and of a fixed number, so how far they are used and how many hold an entry stand beside them.
 #[derive(Drop)]
 pub struct Buckets<'a, E: Entry> {
     cells: &'a mut [Cell<E>],
@@ -46,11 +47,22 @@ impl<'a, E: Entry> Buckets<'a, E> {
         }
     }
 
+    /// The cell `at`, if there is one.
+    fn cell(&self, at: usize) -> Option<Cell<E>>
+        ensures { MatchOption result (length self.now.cells.now ≤ at) (λ c. (at < length self.now.cells.now) × (c ≡ slice_index_or self.now.cells.now at c)) }
+    {
+        self.cells.get(at).copied()
+    }
+
     /// The bucket to take from.
     fn front(&self) -> Option<u8>
         ensures { BucketFine E.Entry.ahead E.Entry.minute_of self.now → MatchOption result (Clear (occupied self.now.heads.bits) 0 256) (λ b. Leads E.Entry.ahead self.now.cells.now self.now.heads.bits self.now.heads.first b) }
     {
-        nearest(self.cells, &self.heads, self.low)
+        let front = Front {
+            cells: self.cells,
+            heads: &self.heads,
+        };
+        front.nearest(self.low)
     }
 
     /// Puts e into the cell `new`, which is in no chain.
@@ -65,6 +77,7 @@ impl<'a, E: Entry> Buckets<'a, E> {
         let head = self.heads.first(b);
         let start = link(self.cells, head, new, e);
         self.heads.fill(b, start);
+        // Safe in any state: in a queue in order the sum is never cut off.
         self.len = self.len.saturating_add(1);
         self.low = low;
     }
@@ -78,42 +91,34 @@ impl<E: Entry> Queue<E> for Buckets<'_, E> {
     ghost ordered = { BucketFine E.Entry.ahead E.Entry.minute_of };
 
     fn put(&mut self, e: E) -> Result<(), Refusal> {
-        let room = self.cells.len();
         let back = self.free;
-        if back < room {
-            self.free = self.cells[back].next;
+        if let Some(cell) = self.cell(back) {
+            self.free = cell.next;
             self.place(back, e);
             return Ok(());
         }
         let new = self.fresh;
-        check_room(new, room)?;
+        check_room(new, self.cells.len())?;
         self.fresh = new + 1;
         self.place(new, e);
         Ok(())
     }
 
     fn take(&mut self) -> Option<E> {
-        let Some(b) = self.front() else {
-            return None;
-        };
+        let b = self.front()?;
         let at = self.heads.first(b);
-        let room = self.cells.len();
-        if room <= at {
-            return None;
-        }
-        let cell = self.cells[at];
-        self.heads.advance(b, cell.next, room);
-        self.cells[at] = Cell {
-            entry: cell.entry,
-            next: self.free,
-        };
+        let cell = self.cell(at)?;
+        self.heads.advance(b, cell.next, self.cells.len());
+        self.cells[at].next = self.free;
         self.free = at;
+        // Safe in any state: in a queue in order an entry is counted here.
         self.len = self.len.saturating_sub(1);
         self.low = cell.entry.minute();
         Some(cell.entry)
     }
 
     fn clear(&mut self) {
+        // as `new` has them; it cannot be called here, since the cells are lent and would have to be moved out
         self.heads.clear();
         self.free = NONE;
         self.fresh = 0;

@@ -1,10 +1,13 @@
 //! The table of 256 buckets: where the chain of each begins, and a bit for each, set exactly while it holds an entry.
 
-ghost use Rattle.std.specs.Prelude.{◌≡◌, ℕ, ◌<◌, length, set, replicate, if◌then◌else◌, MatchOption, ◌≢◌, nat_lt, slice_index, slice_set};
-ghost use Rattle.buckets.specs.Bitmap.{bit, occupied, Clear, First};
+ghost use Rattle.std.specs.Prelude.{◌≡◌, ℕ, ◌+◌, ◌-◌, ◌<◌, length, set, replicate, if◌then◌else◌, MatchOption, ◌≢◌, nat_lt, slice_index, slice_set};
+ghost use Rattle.std.specs.Int.{bit_at};
+ghost use Rattle.std.specs.Iterator.{at_most};
+ghost use Rattle.buckets.specs.Bitmap.{occupied, Clear, First};
 
-pub(crate) const NONE: usize = usize::MAX;
+use crate::chain::NONE;
 
+// Bits stand beside `first`, since a word of bits tells of 64 buckets at once which are empty.
 #[derive(Clone, Copy)]
 pub struct Heads {
     bits: [u64; 4],
@@ -26,15 +29,14 @@ impl Heads {
         ensures bits { self.new.bits ≡ replicate 4 0 }
         ensures first { self.new.first ≡ replicate 256 18446744073709551615 }
     {
-        self.bits = [0; 4];
-        self.first = [NONE; 256];
+        *self = Heads::new();
     }
 
     /// Where the chain of the bucket b begins.
     pub(crate) fn first(&self, b: u8) -> usize
         ensures { result ≡ slice_index self.now.first b }
     {
-        self.first[b as usize]
+        self.first[usize::from(b)]
     }
 
     /// Has the chain of the bucket b, which now holds an entry, begin at `at`.
@@ -43,19 +45,20 @@ impl Heads {
         ensures here { occupied self.new.bits b ≡ 1 }
         ensures others { (k : ℕ) → k < 256 → (k ≢ b) → occupied self.new.bits k ≡ occupied self.old.bits k }
     {
-        let i = b as usize;
+        let i = usize::from(b);
         self.first[i] = at;
         let word = self.bits[i / 64];
         self.bits[i / 64] = with_bit(word, i % 64);
     }
 
     /// Empties the bucket b.
+    // Two functions: with an `Option` each half would still set or clear its bit by another word.
     pub(crate) fn empty(&mut self, b: u8)
         ensures first { self.new.first ≡ slice_set self.old.first b 18446744073709551615 }
         ensures here { occupied self.new.bits b ≡ 0 }
         ensures others { (k : ℕ) → k < 256 → (k ≢ b) → occupied self.new.bits k ≡ occupied self.old.bits k }
     {
-        let i = b as usize;
+        let i = usize::from(b);
         self.first[i] = NONE;
         let word = self.bits[i / 64];
         self.bits[i / 64] = without_bit(word, i % 64);
@@ -74,47 +77,73 @@ impl Heads {
         }
     }
 
+    /// The buckets from `from` on that hold an entry.
+    pub(crate) fn filled(&self, from: usize) -> Filled<'_>
+        ensures heads { result.heads.now ≡ self.now }
+        ensures from { result.from ≡ from }
+    {
+        Filled { heads: self, from }
+    }
+
     /// The first bucket from `from` on that holds an entry.
-    pub(crate) fn next(&self, from: usize) -> Option<u8>
+    fn first_filled(&self, from: usize) -> Option<u8>
         ensures { MatchOption result (Clear (occupied self.now.bits) from 256) (λ b. First (occupied self.now.bits) from 256 b) }
     {
-        let mut word = from / 64;
-        let mut low = from % 64;
-        while word < 4 {
-            if let Some(k) = lowest(self.bits[word], low) {
-                return Some((word * 64 + k) as u8);
+        for (i, word) in self.bits.iter().enumerate() {
+            if let Some(k) = lowest(*word, from.saturating_sub(i * 64)) {
+                return Some((i * 64 + k) as u8);
             }
-            word += 1;
-            low = 0;
         }
         None
     }
 }
 
+/// The buckets that hold an entry, in rising order.
+#[derive(Drop)]
+pub(crate) struct Filled<'a> {
+    heads: &'a Heads,
+    from: usize,
+}
+
+impl Iterator for Filled<'_> {
+    type Item = u8;
+
+    ghost next_gives = { λ s r t. (t.heads.now ≡ s.heads.now) × MatchOption r (Clear (occupied s.heads.now.bits) s.from 256) (λ b. First (occupied s.heads.now.bits) s.from 256 b × (t.from ≡ b + 1)) };
+
+    ghost remaining = { λ s. at_most (256 - s.from) };
+
+    fn next(&mut self) -> Option<u8> {
+        let b = self.heads.first_filled(self.from)?;
+        self.from = usize::from(b) + 1;
+        Some(b)
+    }
+}
+
 fn with_bit(word: u64, k: usize) -> u64
     requires { k < 64 }
-    ensures here { bit result k ≡ 1 }
-    ensures others { (j : ℕ) → (j ≢ k) → bit result j ≡ bit word j }
+    ensures here { bit_at result k ≡ 1 }
+    ensures others { (j : ℕ) → (j ≢ k) → bit_at result j ≡ bit_at word j }
 {
     word | (1 << k)
 }
 
 fn without_bit(word: u64, k: usize) -> u64
     requires { k < 64 }
-    ensures here { bit result k ≡ 0 }
-    ensures others { (j : ℕ) → (j ≢ k) → bit result j ≡ bit word j }
+    ensures here { bit_at result k ≡ 0 }
+    ensures others { (j : ℕ) → j < 64 → (j ≢ k) → bit_at result j ≡ bit_at word j }
 {
-    word ^ (word & (1 << k))
+    word & !(1 << k)
 }
 
 /// The lowest bit of a word, from `from` on.
 fn lowest(word: u64, from: usize) -> Option<usize>
-    requires { from < 64 }
-    ensures { MatchOption result (Clear (bit word) from 64) (λ t. First (bit word) from 64 t) }
+    ensures { MatchOption result (Clear (bit_at word) from 64) (λ t. First (bit_at word) from 64 t) }
 {
-    let rest = word >> from;
-    if rest == 0 {
+    if from >= 64 {
         return None;
     }
-    Some(from + rest.trailing_zeros() as usize)
+    match word >> from {
+        0 => None,
+        rest => Some(from + rest.trailing_zeros() as usize),
+    }
 }

@@ -6,7 +6,7 @@ ghost use Rattle.image.specs.Written.{written};
 
 use crate::packed::Draft;
 use std::alloc::{AllocError, Global};
-use timetable::{Connection, Station, Train};
+use timetable::{Connection, Counts, Station, Train};
 
 /// A connection that runs.
 pub fn runs(train: u16, start: u16, end: u16, departure: u16, ride: u16) -> Connection
@@ -24,29 +24,43 @@ pub fn runs(train: u16, start: u16, end: u16, departure: u16, ride: u16) -> Conn
 
 /// Timetable A: a day with five trains between three stations.
 pub fn example_a(heap: Global) -> Result<Draft, AllocError>
-    ensures { IfOk result (λ d. d.bytes.items ≡ written timetable_a) }
+    ensures { IfOk result (λ d. d ≡ written timetable_a) }
 {
-    let mut draft = Draft::new(heap, 1440, 3, 5, 6)?;
-    draft.transfer(3)?;
-    draft.transfer(5)?;
-    draft.transfer(4)?;
-    draft.connection(runs(0, 0, 1, 480, 20))?;
-    draft.connection(runs(0, 1, 2, 505, 30))?;
-    draft.connection(runs(1, 0, 1, 490, 10))?;
-    draft.connection(runs(2, 1, 2, 504, 25))?;
-    draft.connection(runs(3, 0, 2, 1430, 40))?;
-    draft.connection(runs(4, 1, 2, 530, 20))?;
-    Ok(draft)
+    let counts = Counts {
+        period: 1440,
+        stations: 3,
+        trains: 5,
+        connections: 6,
+    };
+    Draft::of(
+        heap,
+        counts,
+        &[3, 5, 4],
+        &[
+            runs(0, 0, 1, 480, 20),
+            runs(0, 1, 2, 505, 30),
+            runs(1, 0, 1, 490, 10),
+            runs(2, 1, 2, 504, 25),
+            runs(3, 0, 2, 1430, 40),
+            runs(4, 1, 2, 530, 20),
+        ],
+    )
 }
 
 /// Timetable B: an hour with two trains between two stations.
 pub fn example_b(heap: Global) -> Result<Draft, AllocError>
-    ensures { IfOk result (λ d. d.bytes.items ≡ written timetable_b) }
+    ensures { IfOk result (λ d. d ≡ written timetable_b) }
 {
-    let mut draft = Draft::new(heap, 60, 2, 2, 2)?;
-    draft.transfer(0)?;
-    draft.transfer(0)?;
-    draft.connection(runs(0, 0, 1, 50, 30))?;
-    draft.connection(runs(1, 0, 1, 5, 10))?;
-    Ok(draft)
+    let counts = Counts {
+        period: 60,
+        stations: 2,
+        trains: 2,
+        connections: 2,
+    };
+    Draft::of(
+        heap,
+        counts,
+        &[0, 0],
+        &[runs(0, 0, 1, 50, 30), runs(1, 0, 1, 5, 10)],
+    )
 }

@@ -6,6 +6,7 @@ use queue::{Entry, Queue, check_room};
 use refusals::Refusal;
 
 /// A queue in the caller's slice of entries: the first `len` of them are held, as a binary heap.
+// The cells are lent and of a fixed number, so a length stands beside them.
 #[derive(Drop)]
 pub struct Heap<'a, E: Entry> {
     cells: &'a mut [E],
@@ -32,22 +33,23 @@ impl<E: Entry> Queue<E> for Heap<'_, E> {
 
     fn put(&mut self, e: E) -> Result<(), Refusal> {
         let n = self.len;
-        let room = self.cells.len();
-        check_room(n, room)?;
+        check_room(n, self.cells.len())?;
         rise(&mut self.cells[0..n + 1], n, e);
         self.len = n + 1;
         Ok(())
     }
 
     fn take(&mut self) -> Option<E> {
-        let n = self.len;
-        if n == 0 || self.cells.len() < n {
+        // By index: after `split_last_mut` the proof does not know what the field's slice holds.
+        let end = self.len.checked_sub(1)?;
+        // Safe in any state: in a queue in order it never comes to this.
+        if self.cells.len() <= end {
             return None;
         }
         let first = self.cells[0];
-        let last = self.cells[n - 1];
-        self.len = n - 1;
-        sink(&mut self.cells[0..n - 1], 0, last);
+        let last = self.cells[end];
+        self.len = end;
+        sink(&mut self.cells[0..end], 0, last);
         Some(first)
     }
 

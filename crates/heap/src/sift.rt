@@ -1,5 +1,6 @@
 //! Steps in a binary heap that fills a slice: the children of the place p are 2 p + 1 and 2 p + 2. The hole moves, so
-//! that each entry on the way is written once.
+//! that each entry on the way is written once. It moves along a path of the tree, so the loops go by that arithmetic
+//! and not over the slice.
 
 ghost use Rattle.std.specs.Prelude.{◌≡◌, ℕ, ◌+◌, ◌*◌, ◌<◌, ◌≤◌, length, slice_set};
 ghost use Rattle.queue.specs.Order.{sorted};
@@ -52,11 +53,9 @@ fn first_child<E: Entry>(cells: &[E], at: usize) -> usize
     ensures best { Best E.Entry.ahead cells.now at result }
 {
     let left = at * 2 + 1;
-    if cells.len() <= left + 1 {
-        return left;
+    let right = left + 1;
+    match cells.get(right) {
+        Some(x) if x.is_ahead(&cells[left]) => right,
+        _ => left,
     }
-    if cells[left + 1].is_ahead(&cells[left]) {
-        return left + 1;
-    }
-    left
 }

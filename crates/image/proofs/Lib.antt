@@ -1,4 +1,5 @@
 pub mod First
+pub mod Tried
 pub mod Sound
 pub mod Pasted
 pub mod ReadBack

@@ -1,8 +1,10 @@
 -- A loop that writes one piece of w bytes after another.
-use Rattle.std.proofs.Common.{◌≡◌, ℕ, ◌+◌, ◌*◌, ◌<◌, ◌≤◌, List, [], ◌∷◌, ◌++◌, length, get_or, take, drop, sym, refl, ap, ◌∙◌, ap₂, arith, length-append}
+use Rattle.std.proofs.Common.{◌≡◌, ℕ, ◌+◌, ◌*◌, ◌<◌, ◌≤◌, List, [], ◌∷◌, ◌++◌, map, length, get_or, take, drop, sym, refl, ap, ◌∙◌, ap₂, arith, length-append}
 use lib.Seq.{paste}
-use Rattle.std.specs.List.{flat_map}
-use Rattle.std.proofs.lemmas.List.{take_more, flat_map_more, length-take-le, take_all, append_assoc}
+use Rattle.std.specs.List.{flat_map, concat}
+use Rattle.std.proofs.lemmas.List.{take_more, append_assoc, append-nil}
+use Rattle.std.proofs.lemmas.List.Folds.{concat-append, flat_map-map}
+use Rattle.std.proofs.lemmas.List.Concat.{concat_is}
 use Rattle.std.proofs.lemmas.List.Edits.{paste-paste, paste_all}
 use Rattle.timetable.specs.Table.{Table, stations, connections}
 use Rattle.image.specs.Written.{number_bytes, record_bytes, header_bytes, written}
@@ -12,21 +14,19 @@ module _ {X : Type 0} (f : X → List ℕ) (w : ℕ) (wide : (x : X) → length 
   length_joined [] = omega arith
   length_joined (x ∷ xs) = length-append (f x) (flat_map f xs) ∙ omega (arith, wide x, length_joined xs)
 
-  pub put_more : (d : List ℕ) (p : ℕ) (xs : List X) (i : ℕ) (z : X) → i < length xs → p ≤ length d → paste (paste d p (flat_map f (take i xs)) (w * i)) (p + w * i) (f (get_or xs i z)) w ≡ paste d p (flat_map f (take (i + 1) xs)) (w * (i + 1))
-  put_more d p xs i z l h =
-      let n : w * i ≡ length (flat_map f (take i xs)) = sym (length_joined (take i xs) ∙ ap (λ k. w * k) (length-take-le i xs (omega arith))) in
-      let e = paste-paste d p (flat_map f (take i xs)) (f (get_or xs i z)) (w * i) w n (sym (wide (get_or xs i z))) h in
-      let j : flat_map f (take i xs) ++ f (get_or xs i z) ≡ flat_map f (take (i + 1) xs) = flat_map_more f [] (take i xs) (get_or xs i z) ∙ ap (flat_map f) (sym (take_more xs i z l)) in
-      e ∙ ap₂ (paste d p) j (omega arith)
+-- one piece more, of the width w of those before it
+pub put_one : (d : List ℕ) (p w i : ℕ) (xs : List (List ℕ)) (o o' b : List ℕ) (q : ℕ) → i < length xs → p ≤ length d → length (concat (take i xs)) ≡ w * i → o ≡ paste d p (concat (take i xs)) (w * i) → q ≡ p + w * i → b ≡ get_or xs i [] → length b ≡ w → o' ≡ paste o q b (length b) → (length (concat (take (i + 1) xs)) ≡ w * (i + 1)) × (o' ≡ paste d p (concat (take (i + 1) xs)) (w * (i + 1)))
+put_one d p w i xs o o' b q l h long inv at piece wide put =
+    let done = concat (take i xs) in
+    let more : concat (take (i + 1) xs) ≡ done ++ b = ap concat (take_more xs i [] l) ∙ (concat-append (take i xs) (get_or xs i [] ∷ []) ∙ ap (λ z. done ++ z) (append-nil (get_or xs i []) ∙ sym piece)) in
+    let e = paste-paste d p done b (w * i) w (sym long) (sym wide) h in
+    let m : w * i + w ≡ w * (i + 1) = omega arith in (
+      ap length more ∙ (length-append done b ∙ omega (arith, long, wide)),
+      put ∙ (ap (λ x. paste x q b (length b)) inv ∙ (ap₂ (λ x y. paste (paste d p done (w * i)) x b y) at wide ∙ (e ∙ ap₂ (paste d p) (sym more) m))),
+    )
 
-  -- the same, at what a call of `put` leaves
-  pub put_step : (d : List ℕ) (p : ℕ) (xs : List X) (i : ℕ) (z : X) (o o' b : List ℕ) (q : ℕ) → i < length xs → p ≤ length d → o ≡ paste d p (flat_map f (take i xs)) (w * i) → q ≡ p + w * i → b ≡ f (get_or xs i z) → o' ≡ paste o q b (length b) → o' ≡ paste d p (flat_map f (take (i + 1) xs)) (w * (i + 1))
-  put_step d p xs i z o o' b q l h inv at piece put =
-      let n : length b ≡ w = ap length piece ∙ wide (get_or xs i z) in
-      put ∙ (ap (λ x. paste x q b (length b)) inv ∙ (ap (λ x. paste (paste d p (flat_map f (take i xs)) (w * i)) x b (length b)) at ∙ (ap₂ (paste (paste d p (flat_map f (take i xs)) (w * i)) (p + w * i)) piece n ∙ put_more d p xs i z l h)))
-
-  pub put_all : (d : List ℕ) (p : ℕ) (xs : List X) (i : ℕ) (o : List ℕ) → i ≡ length xs → o ≡ paste d p (flat_map f (take i xs)) (w * i) → o ≡ paste d p (flat_map f xs) (w * length xs)
-  put_all d p xs i o e inv = inv ∙ ap₂ (paste d p) (ap (flat_map f) (take_all i xs (omega arith))) (ap (λ k. w * k) e)
+pub concat-map : {X : Type 0} (f : X → List ℕ) (xs : List X) → concat (map f xs) ≡ flat_map f xs
+concat-map f xs = concat_is (map f xs) ∙ flat_map-map (λ x. x) f xs
 
 pub length-written : (t : Table) → length (written t) ≡ 16 + 2 * stations t + 12 * connections t
 length-written t =

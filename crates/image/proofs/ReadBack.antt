@@ -1,5 +1,5 @@
 -- A written table reads back as the same table.
-use Rattle.std.proofs.Common.{◌≡◌, ℕ, zero, suc, ◌+◌, ◌-◌, ◌*◌, ◌<◌, ◌≤◌, Bool, true, false, ◌&&◌, ◌||◌, eqb, ltb, leb, List, [], ◌∷◌, ◌++◌, length, get_or, drop, None, Ok, sym, refl, ap, ◌∙◌, ap₂, add-zero, add_assoc, mul-zero, zero-add, add-one, arith}
+use Rattle.std.proofs.Common.{◌≡◌, ℕ, zero, suc, ◌+◌, ◌-◌, ◌*◌, ◌<◌, ◌≤◌, Bool, true, false, ◌&&◌, ◌||◌, eqb, ltb, List, [], ◌∷◌, ◌++◌, length, get_or, drop, None, Ok, sym, refl, ap, ◌∙◌, ap₂, add-zero, add_assoc, mul-zero, zero-add, add-one, arith}
 use Rattle.std.specs.List.{flat_map}
 use Rattle.std.proofs.lemmas.Bool.Decides.{nat_tests}
 use Rattle.std.proofs.lemmas.Bool.{le-leb, eq-eqb, ne_eqb, not_from_false, or_right as true_right}
@@ -7,9 +7,11 @@ use Rattle.std.proofs.lemmas.List.{append-nil, append_assoc, get_or-drop, drop-d
 use Rattle.std.proofs.lemmas.List.FromFn.{fill_by_all}
 use Rattle.refusals.specs.declared.refusal.Refusal.{Refusal}
 use Rattle.refusals.specs.declared.refusal.Refusal.TheVariants.{ShortHeader}
+use Rattle.timetable.specs.declared.counts.Counts.{Counts}
+use Rattle.image.specs.declared.record.Record.{Record}
 use Rattle.timetable.specs.Table.{Table, stations, connections, no_connection, at, Lawful}
 use Rattle.timetable.specs.declared.connection.Connection.{Connection}
-use Rattle.image.specs.Format.{or_else, unless, fault, opened, opened_by, front_fault, limits_fault, transfer_fault, record_fault, goes_on, number, period_in, stations_in, trains_in, connections_in, transfer_in, record_at, connection_in, table_in}
+use Rattle.image.specs.Format.{or_else, unless, fault, opened, opened_by, front_fault, limits_fault, transfer_fault, record_fault, goes_on, number, period_in, stations_in, trains_in, connections_in, transfer_in, record_at, record_in, fields_ok, connection_in, table_in}
 use Rattle.image.specs.Written.{number_bytes, record_bytes, mark, written}
 use Rattle.image.proofs.First.{or_none, first_none}
 use Rattle.image.proofs.Sound.{Fields, FieldsAt, Limits}
@@ -95,22 +97,22 @@ unless_true b r e = ap (λ x. unless x r) e
 limits_none : (bs : List ℕ) → Limits bs → limits_fault bs ≡ None
 limits_none bs n = grind (arith, nat_tests)
 
-fields_true : (z s e d r m zs ss p : ℕ) → Fields z s e d r m zs ss p → (ltb z zs && (ltb s ss && (ltb e ss && (ltb d p && (leb 1 r && (leb r 10080 && leb m 1)))))) ≡ true
-fields_true z s e d r m zs ss p f = grind (arith, nat_tests)
+fields_true : (n : Counts) (r : Record) → Fields n r → fields_ok n r ≡ true
+fields_true n r f = grind (arith, nat_tests)
 
 goes_true : (a b x y : ℕ) → a ≤ b → (a ≡ b → x ≡ y) → (ltb a b || (eqb a b && eqb x y)) ≡ true
 goes_true a b x y h k = grind (arith, nat_tests)
 
-record_none : (bs : List ℕ) (c : ℕ) → FieldsAt bs (record_at bs c) → (number bs (record_at bs c + 2) ≡ number bs (record_at bs c + 4) → ⊥) → (eqb c 0 || goes_on bs (record_at bs (c - 1)) (record_at bs c)) ≡ true → record_fault bs c ≡ None
+record_none : (bs : List ℕ) (c : ℕ) → FieldsAt bs (record_at bs c) → (number bs (record_at bs c + 2) ≡ number bs (record_at bs c + 4) → ⊥) → (eqb c 0 || goes_on (record_in bs (record_at bs (c - 1))) (record_in bs (record_at bs c))) ≡ true → record_fault bs c ≡ None
 record_none bs c f m g =
-    or_none _ _ (unless_true _ _ (fields_true _ _ _ _ _ _ _ _ _ f))
+    or_none _ _ (unless_true _ _ (fields_true _ _ f))
     (or_none _ _ (unless_true _ _ (not_from_false _ (ne_eqb _ _ m))) (unless_true _ _ g))
 
 mark_low : (b : Bool) → mark b ≤ 1
 mark_low true = omega arith
 mark_low false = omega arith
 
-follow : (t : Table) → Lawful t → (c : ℕ) → c + 1 < connections t → (bs : List ℕ) (p q : ℕ) → Holds bs p (at t c) → Holds bs q (at t (c + 1)) → goes_on bs p q ≡ true
+follow : (t : Table) → Lawful t → (c : ℕ) → c + 1 < connections t → (bs : List ℕ) (p q : ℕ) → Holds bs p (at t c) → Holds bs q (at t (c + 1)) → goes_on (record_in bs p) (record_in bs q) ≡ true
 follow t l c m bs p q h n =
     goes_true (number bs p) (number bs q) (number bs (p + 4)) (number bs (q + 2))
     (omega (arith, h.train_is, n.train_is, l.trains_rise c m))
@@ -143,13 +145,13 @@ module _ (t : Table) (l : Lawful t) where
   moves_back : (c : ℕ) → c < connections t → number (written t) (record_at (written t) c + 2) ≡ number (written t) (record_at (written t) c + 4) → ⊥
   moves_back c k e = let h = record_back t c k in (l.each c k).moves (sym h.start_is ∙ (e ∙ h.end_is))
 
-  goes_back : (c : ℕ) → c < connections t → (eqb c 0 || goes_on (written t) (record_at (written t) (c - 1)) (record_at (written t) c)) ≡ true
+  goes_back : (c : ℕ) → c < connections t → (eqb c 0 || goes_on (record_in (written t) (record_at (written t) (c - 1))) (record_in (written t) (record_at (written t) c))) ≡ true
   goes_back zero k = refl
   goes_back (suc d) k =
       let m : d + 1 < connections t = omega arith in
       let e : d ≡ suc d - 1 = omega arith in
       let f = follow t l d m (written t) (record_at (written t) d) (record_at (written t) (d + 1)) (record_back t d (omega arith)) (record_back t (d + 1) m) in
-      true_right (eqb (suc d) 0) (goes_on (written t) (record_at (written t) (suc d - 1)) (record_at (written t) (suc d))) (sym (ap₂ (λ x y. goes_on (written t) (record_at (written t) x) (record_at (written t) y)) e (add-one d)) ∙ f)
+      true_right (eqb (suc d) 0) (goes_on (record_in (written t) (record_at (written t) (suc d - 1))) (record_in (written t) (record_at (written t) (suc d)))) (sym (ap₂ (λ x y. goes_on (record_in (written t) (record_at (written t) x)) (record_in (written t) (record_at (written t) y))) e (add-one d)) ∙ f)
 
   transfer_none : (s : ℕ) → s < stations t → transfer_fault (written t) s ≡ None
   transfer_none s k = unless_true _ _ (le-leb _ _ (omega (arith, transfer_back t s k, l.transfer_high s k)))

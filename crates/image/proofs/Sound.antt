@@ -1,32 +1,24 @@
 -- What bytes that open are known to hold.
-use Rattle.std.proofs.Common.{◌≡◌, ℕ, ◌+◌, ◌-◌, ◌*◌, ◌<◌, ◌≤◌, Bool, true, false, not, ◌&&◌, ◌||◌, eqb, ltb, leb, List, length, get_or, is_ok, Some, None, Ok, Option, refl, subst, zero-add, arith}
+use Rattle.std.proofs.Common.{◌≡◌, ℕ, ◌+◌, ◌-◌, ◌*◌, ◌<◌, ◌≤◌, Bool, true, false, not, ◌&&◌, ◌||◌, eqb, ltb, List, length, get_or, Some, None, Ok, Option, refl, subst, zero-add, arith}
 use Rattle.std.proofs.lemmas.Bool.Decides.{nat_tests}
-use Rattle.std.proofs.lemmas.Bool.{both_ways, not-true, eqb-true, eqb-false, leb-true}
+use Rattle.std.proofs.lemmas.Bool.{not-true, eqb-true, eqb-false, leb-true}
 use Rattle.refusals.specs.declared.refusal.Refusal.TheVariants.{RecordLimit, SameStation, BrokenTrain}
 use Rattle.std.proofs.lemmas.List.FromFn.{length-map-range_with_len, get_or-map-range_with_len}
+use Rattle.timetable.specs.declared.counts.Counts.{Counts}
+use Rattle.image.specs.declared.record.Record.{Record}
 use Rattle.timetable.specs.Table.{Table, stations, connections, no_connection, at, Lawful, LawfulConnection}
 use Rattle.refusals.specs.declared.refusal.Refusal.{Refusal}
-use Rattle.image.specs.Format.{or_else, unless, first, fault, opened, opened_by, front_fault, limits_fault, length_fault, transfer_fault, record_fault, fields_ok, goes_on, number, period_in, stations_in, trains_in, connections_in, transfer_in, record_at, connection_in, table_in}
+use Rattle.image.specs.Format.{or_else, unless, first, fault, opened_by, front_fault, limits_fault, length_fault, transfer_fault, record_fault, fields_ok, goes_on, number, period_in, stations_in, trains_in, connections_in, counts_in, transfer_in, record_at, record_in, connection_in, table_in}
 use Rattle.image.proofs.First.{or_left, or_right, first-each}
-
-abbrev pub Opens : List ℕ → Type 0
-Opens bs = is_ok (opened bs) ≡ true
 
 pub unless_none : (b : Bool) (r : Refusal) → unless b r ≡ None → b ≡ true
 unless_none true r e = refl
 unless_none false r e = let z : ◌≡◌ {A = ℕ} 0 1 = cc in absurd (omega arith)
 
-by_none : (o : Option Refusal) (t : Table) → is_ok (opened_by o t) ≡ true → o ≡ None
-by_none None t e = refl
-by_none (Some r) t e = absurd (both_ways false refl e)
-
 -- what opens has no fault, and means its table
 pub opened_none : (o : Option Refusal) (s t : Table) → opened_by o s ≡ Ok t → (o ≡ None) × (s ≡ t)
 opened_none None s t e = (refl, cc)
 opened_none (Some r) s t e = let z : ◌≡◌ {A = ℕ} 0 1 = cc in absurd (omega arith)
-
-pub no_fault : (bs : List ℕ) → Opens bs → fault bs ≡ None
-no_fault bs h = by_none (fault bs) (table_in bs) h
 
 module _ (bs : List ℕ) (h : fault bs ≡ None) where
   rest₁ : or_else (limits_fault bs) (or_else (length_fault bs) (or_else (first (transfer_fault bs) 0 (stations_in bs)) (first (record_fault bs) 0 (connections_in bs)))) ≡ None
@@ -65,33 +57,33 @@ pub record Limits (bs : List ℕ) : Type 0 where
 pub limits : (bs : List ℕ) → limits_fault bs ≡ None → Limits bs
 limits bs h = record { period_low = grind (arith, nat_tests); period_high = grind (arith, nat_tests); stations_low = grind (arith, nat_tests); stations_high = grind (arith, nat_tests); trains_high = grind (arith, nat_tests); connections_high = grind (arith, nat_tests); nothing = grind (arith, nat_tests) }
 
--- what a record without fault holds, over its fields
-pub record Fields (z s e d r m zs ss p : ℕ) : Type 0 where
-  pub train_known : z < zs
-  pub start_known : s < ss
-  pub end_known : e < ss
-  pub in_period : d < p
-  pub ride_low : 1 ≤ r
-  pub ride_high : r ≤ 10080
-  pub marked : m ≤ 1
+-- what a record without fault holds
+pub record Fields (n : Counts) (r : Record) : Type 0 where
+  pub train_known : r.train.0 < n.trains
+  pub start_known : r.start.0 < n.stations
+  pub end_known : r.end.0 < n.stations
+  pub in_period : r.departure < n.period
+  pub ride_low : 1 ≤ r.ride
+  pub ride_high : r.ride ≤ 10080
+  pub marked : r.mark ≤ 1
 
-fields : (z s e d r m zs ss p : ℕ) → (ltb z zs && (ltb s ss && (ltb e ss && (ltb d p && (leb 1 r && (leb r 10080 && leb m 1)))))) ≡ true → Fields z s e d r m zs ss p
-fields z s e d r m zs ss p h = record { train_known = grind (arith, nat_tests); start_known = grind (arith, nat_tests); end_known = grind (arith, nat_tests); in_period = grind (arith, nat_tests); ride_low = grind (arith, nat_tests); ride_high = grind (arith, nat_tests); marked = grind (arith, nat_tests) }
+fields : (n : Counts) (r : Record) → fields_ok n r ≡ true → Fields n r
+fields n r h = record { train_known = grind (arith, nat_tests); start_known = grind (arith, nat_tests); end_known = grind (arith, nat_tests); in_period = grind (arith, nat_tests); ride_low = grind (arith, nat_tests); ride_high = grind (arith, nat_tests); marked = grind (arith, nat_tests) }
 
 abbrev pub FieldsAt : List ℕ → ℕ → Type 0
-FieldsAt bs q = Fields (number bs q) (number bs (q + 2)) (number bs (q + 4)) (number bs (q + 6)) (number bs (q + 8)) (number bs (q + 10)) (trains_in bs) (stations_in bs) (period_in bs)
+FieldsAt bs q = Fields (counts_in bs) (record_in bs q)
 
 module _ (bs : List ℕ) (c : ℕ) (h : record_fault bs c ≡ None) where
-  rest_moves : or_else (unless (not (eqb (number bs (record_at bs c + 2)) (number bs (record_at bs c + 4)))) (SameStation c)) (unless (eqb c 0 || goes_on bs (record_at bs (c - 1)) (record_at bs c)) (BrokenTrain c)) ≡ None
-  rest_moves = or_right (unless (fields_ok bs (record_at bs c)) (RecordLimit c)) _ h
+  rest_moves : or_else (unless (not (eqb (number bs (record_at bs c + 2)) (number bs (record_at bs c + 4)))) (SameStation c)) (unless (eqb c 0 || goes_on (record_in bs (record_at bs (c - 1))) (record_in bs (record_at bs c))) (BrokenTrain c)) ≡ None
+  rest_moves = or_right (unless (fields_ok (counts_in bs) (record_in bs (record_at bs c))) (RecordLimit c)) _ h
 
   pub fields_at : FieldsAt bs (record_at bs c)
-  fields_at = fields _ _ _ _ _ _ _ _ _ (unless_none (fields_ok bs (record_at bs c)) (RecordLimit c) (or_left (unless (fields_ok bs (record_at bs c)) (RecordLimit c)) _ h))
+  fields_at = fields _ _ (unless_none _ (RecordLimit c) (or_left (unless (fields_ok (counts_in bs) (record_in bs (record_at bs c))) (RecordLimit c)) _ h))
 
   pub moves_at : number bs (record_at bs c + 2) ≡ number bs (record_at bs c + 4) → ⊥
   moves_at = eqb-false _ _ (not-true _ (unless_none _ (SameStation c) (or_left (unless (not (eqb (number bs (record_at bs c + 2)) (number bs (record_at bs c + 4)))) (SameStation c)) _ rest_moves)))
 
-  pub goes_at : (eqb c 0 || goes_on bs (record_at bs (c - 1)) (record_at bs c)) ≡ true
+  pub goes_at : (eqb c 0 || goes_on (record_in bs (record_at bs (c - 1))) (record_in bs (record_at bs c))) ≡ true
   goes_at = unless_none _ (BrokenTrain c) (or_right (unless (not (eqb (number bs (record_at bs c + 2)) (number bs (record_at bs c + 4)))) (SameStation c)) _ rest_moves)
 
 goes : (a b x y : ℕ) (c : ℕ) → (eqb (c + 1) 0 || (ltb a b || (eqb a b && eqb x y))) ≡ true → (a ≤ b) × (a ≡ b → x ≡ y)
@@ -119,7 +111,7 @@ lawful_connection bs c h =
 follows : (bs : List ℕ) (c : ℕ) → record_fault bs (c + 1) ≡ None → (number bs (record_at bs c) ≤ number bs (record_at bs (c + 1))) × (number bs (record_at bs c) ≡ number bs (record_at bs (c + 1)) → number bs (record_at bs c + 4) ≡ number bs (record_at bs (c + 1) + 2))
 follows bs c h =
     let e : c + 1 - 1 ≡ c = omega arith in
-    let P : ℕ → Type 0 = λ q. (eqb (c + 1) 0 || goes_on bs (record_at bs q) (record_at bs (c + 1))) ≡ true in
+    let P : ℕ → Type 0 = λ q. (eqb (c + 1) 0 || goes_on (record_in bs (record_at bs q)) (record_in bs (record_at bs (c + 1)))) ≡ true in
     goes _ _ _ _ c (subst P e (goes_at bs (c + 1) h))
 
 -- An opened image's table is lawful.
@@ -140,6 +132,3 @@ lawful bs h =
       trains_rise = λ c l. let k : c < connections_in bs = omega arith in let m : c + 1 < connections_in bs = omega arith in rw (connection_at bs c k, connection_at bs (c + 1) m) (follows bs c (no_record bs h (c + 1) m)).0;
       goes_on = λ c l. let k : c < connections_in bs = omega arith in let m : c + 1 < connections_in bs = omega arith in rw (connection_at bs c k, connection_at bs (c + 1) m) (follows bs c (no_record bs h (c + 1) m)).1;
     }
-
-pub opens_length : (bs : List ℕ) → Opens bs → length bs ≡ 16 + 2 * stations_in bs + 12 * connections_in bs
-opens_length bs h = length_is bs (no_fault bs h)

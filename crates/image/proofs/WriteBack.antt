@@ -1,7 +1,8 @@
 -- An image that opens is written again with the same bytes.
-use Rattle.std.proofs.Common.{◌≡◌, ℕ, zero, suc, ◌+◌, ◌*◌, ◌/◌, ◌%◌, ◌<◌, ◌≤◌, eqb, List, [], ◌∷◌, ◌++◌, map, length, get_or, take, drop, None, Ok, sym, refl, ap, ◌∙◌, ap₂, add-zero, mul-zero, zero-add, arith, take-add}
+use Rattle.std.proofs.Common.{◌≡◌, ℕ, zero, suc, ◌+◌, ◌*◌, ◌/◌, ◌%◌, ◌<◌, ◌≤◌, eqb, List, [], ◌∷◌, ◌++◌, length, get_or, take, drop, None, Ok, sym, refl, ap, ◌∙◌, ap₂, add-zero, mul-zero, zero-add, arith, take-add}
 use Rattle.std.specs.List.{flat_map, range_with_len}
 use Rattle.std.proofs.lemmas.Bool.Decides.{nat_tests}
+use Rattle.std.proofs.lemmas.List.Folds.{flat_map-map}
 use Rattle.std.proofs.lemmas.List.{drop-drop, drop_more, take_all}
 use Rattle.timetable.specs.Table.{Table, connections}
 use Rattle.image.specs.Format.{fault, opened, front_fault, number, version_in, period_in, stations_in, trains_in, connections_in, transfer_in, record_at, connection_in, table_in}
@@ -23,10 +24,6 @@ module _ (h : ℕ → List ℕ) (bs : List ℕ) (w : ℕ) where
       let m : w + w * n ≡ w * suc n = omega arith in
       ap₂ ◌++◌ here (rest ∙ ap (take (w * n)) (sym (drop-drop w p bs)))
       ∙ (sym (take-add w (w * n) (drop p bs)) ∙ ap (λ x. take x (drop p bs)) m)
-
-joined_map : {X Y : Type 0} (f : Y → List ℕ) (g : X → Y) (xs : List X) → flat_map f (map g xs) ≡ flat_map (λ x. f (g x)) xs
-joined_map f g [] = refl
-joined_map f g (x ∷ xs) = ap (λ l. f (g x) ++ l) (joined_map f g xs)
 
 two_of : (a b : ℕ) → a < 256 → number_bytes (a + 256 * b) ≡ a ∷ b ∷ []
 two_of a b h =
@@ -82,13 +79,13 @@ module _ (bs : List ℕ) (b : (i : ℕ) → get_or bs i 0 < 256) where
   transfers_read : fault bs ≡ None → flat_map number_bytes (table_in bs).transfers ≡ take (2 * stations_in bs) (drop 16 bs)
   transfers_read h =
       let n = length_is bs h in
-      joined_map number_bytes (transfer_in bs) (range_with_len 0 (stations_in bs))
+      flat_map-map number_bytes (transfer_in bs) (range_with_len 0 (stations_in bs))
       ∙ pieces (λ s. number_bytes (transfer_in bs s)) bs 2 (stations_in bs) 16 0 (λ k l. rw zero-add (two_read (16 + 2 * k) (omega arith)))
 
   records_read : fault bs ≡ None → flat_map record_bytes (table_in bs).list ≡ take (12 * connections_in bs) (drop (16 + 2 * stations_in bs) bs)
   records_read h =
       let n = length_is bs h in
-      joined_map record_bytes (λ c. connection_in bs (record_at bs c)) (range_with_len 0 (connections_in bs))
+      flat_map-map record_bytes (λ c. connection_in bs (record_at bs c)) (range_with_len 0 (connections_in bs))
       ∙ pieces (λ c. record_bytes (connection_in bs (record_at bs c))) bs 12 (connections_in bs) (16 + 2 * stations_in bs) 0 (λ k l. rw zero-add (six_read (record_at bs k) (omega arith) (fields_at bs k (no_record bs h k l)).marked))
 
   table_read : fault bs ≡ None → written (table_in bs) ≡ bs

@@ -11,12 +11,14 @@
 --       ..     a record of 12 bytes for each connection: train, start, end, departure, ride, mark (1 runs, 0 does not)
 --
 -- Every number has two bytes, the low one first.
-use Rattle.std.specs.Prelude.{ℕ, zero, suc, ◌+◌, ◌-◌, ◌*◌, Bool, true, false, not, ◌&&◌, ◌||◌, List, map, length, Some, None, Ok, Err, Option, Result, ◌==◌, nat_le, nat_lt, slice_index}
+use Rattle.std.specs.Prelude.{◌≡◌, ℕ, zero, suc, ◌+◌, ◌-◌, ◌*◌, Bool, true, false, not, ◌&&◌, ◌||◌, List, [], ◌∷◌, map, length, Some, None, Ok, Err, Option, Result, MatchResult, ◌==◌, nat_le, nat_lt, slice_index}
 use Rattle.std.specs.List.{range_with_len}
 use Rattle.refusals.specs.declared.refusal.Refusal.{Refusal}
 use Rattle.refusals.specs.declared.refusal.Refusal.TheVariants.{ShortHeader, WrongMark, UnknownVersion, HeaderLimit, WrongLength, LongTransfer, RecordLimit, SameStation, BrokenTrain}
 use Rattle.timetable.specs.Table.{Table}
 use Rattle.timetable.specs.declared.connection.Connection.{Connection}
+use Rattle.timetable.specs.declared.counts.Counts.{Counts}
+use Rattle.image.specs.declared.record.Record.{Record}
 
 -- ---- what the bytes hold
 
@@ -39,6 +41,9 @@ trains_in bs = number bs 10
 abbrev pub connections_in : List ℕ → ℕ
 connections_in bs = number bs 12
 
+abbrev pub counts_in : List ℕ → Counts
+counts_in bs = record { period = period_in bs; stations = stations_in bs; trains = trains_in bs; connections = connections_in bs }
+
 -- the transfer time of station v
 abbrev pub transfer_in : List ℕ → ℕ → ℕ
 transfer_in bs v = number bs (16 + 2 * v)
@@ -50,9 +55,16 @@ record_place s c = 16 + 2 * s + 12 * c
 abbrev pub record_at : List ℕ → ℕ → ℕ
 record_at bs c = record_place (stations_in bs) c
 
--- the connection in the record at byte p
+-- the record at byte p
+abbrev pub record_in : List ℕ → ℕ → Record
+record_in bs p = record { train = record { 0 = number bs p }; start = record { 0 = number bs (p + 2) }; end = record { 0 = number bs (p + 4) }; departure = number bs (p + 6); ride = number bs (p + 8); mark = number bs (p + 10) }
+
+-- the connection in a record
+abbrev pub connection_of : Record → Connection
+connection_of r = record { train = r.train; start = r.start; end = r.end; departure = r.departure; ride = r.ride; runs = (r.mark == 1) }
+
 abbrev pub connection_in : List ℕ → ℕ → Connection
-connection_in bs p = record { train = record { 0 = number bs p }; start = record { 0 = number bs (p + 2) }; end = record { 0 = number bs (p + 4) }; departure = number bs (p + 6); ride = number bs (p + 8); runs = (number bs (p + 10) == 1) }
+connection_in bs p = connection_of (record_in bs p)
 
 abbrev pub table_in : List ℕ → Table
 table_in bs = record { period = period_in bs; trains = trains_in bs; transfers = map (transfer_in bs) (range_with_len 0 (stations_in bs)); list = map (λ c. connection_in bs (record_at bs c)) (range_with_len 0 (connections_in bs)) }
@@ -73,6 +85,9 @@ unless false r = Some r
 abbrev pub first : (ℕ → Option Refusal) → ℕ → ℕ → Option Refusal
 first f i zero = None
 first f i (suc n) = or_else (f i) (first f (i + 1) n)
+
+abbrev pub mark : List ℕ
+mark = 0x50 ∷ 0x54 ∷ 0x54 ∷ 0 ∷ []
 
 -- the header is there, and its mark and version are right
 abbrev pub front_fault : List ℕ → Option Refusal
@@ -100,34 +115,44 @@ length_fault bs = unless (length bs == record_at bs (connections_in bs)) (WrongL
 abbrev pub transfer_fault : List ℕ → ℕ → Option Refusal
 transfer_fault bs v = unless (nat_le (transfer_in bs v) 1440) (LongTransfer v)
 
--- every field of the record at byte p is within its limit
-abbrev pub fields_ok : List ℕ → ℕ → Bool
-fields_ok bs p =
-    nat_lt (number bs p) (trains_in bs)
-    && (nat_lt (number bs (p + 2)) (stations_in bs)
-    && (nat_lt (number bs (p + 4)) (stations_in bs)
-    && (nat_lt (number bs (p + 6)) (period_in bs)
-    && (nat_le 1 (number bs (p + 8))
-    && (nat_le (number bs (p + 8)) 10080
-    && nat_le (number bs (p + 10)) 1)))))
+abbrev pub transfers_fault : List ℕ → Option Refusal
+transfers_fault bs = first (transfer_fault bs) 0 (stations_in bs)
 
--- the train of the record at byte p rises, or goes on where it ended in the record at byte q
-abbrev pub goes_on : List ℕ → ℕ → ℕ → Bool
-goes_on bs q p = nat_lt (number bs q) (number bs p) || (number bs q == number bs p && number bs (q + 4) == number bs (p + 2))
+-- every field of a record is within its limit
+abbrev pub fields_ok : Counts → Record → Bool
+fields_ok n r =
+    nat_lt r.train.0 n.trains
+    && (nat_lt r.start.0 n.stations
+    && (nat_lt r.end.0 n.stations
+    && (nat_lt r.departure n.period
+    && (nat_le 1 r.ride
+    && (nat_le r.ride 10080
+    && nat_le r.mark 1)))))
+
+-- the train of record r rises, or goes on where it ended in record q
+abbrev pub goes_on : Record → Record → Bool
+goes_on q r = nat_lt q.train.0 r.train.0 || (q.train.0 == r.train.0 && q.end.0 == r.start.0)
 
 abbrev pub record_fault : List ℕ → ℕ → Option Refusal
 record_fault bs c =
-    or_else (unless (fields_ok bs (record_at bs c)) (RecordLimit c))
+    or_else (unless (fields_ok (counts_in bs) (record_in bs (record_at bs c))) (RecordLimit c))
     (or_else (unless (not (number bs (record_at bs c + 2) == number bs (record_at bs c + 4))) (SameStation c))
-    (unless (c == 0 || goes_on bs (record_at bs (c - 1)) (record_at bs c)) (BrokenTrain c)))
+    (unless (c == 0 || goes_on (record_in bs (record_at bs (c - 1))) (record_in bs (record_at bs c))) (BrokenTrain c)))
+
+abbrev pub records_fault : List ℕ → Option Refusal
+records_fault bs = first (record_fault bs) 0 (connections_in bs)
 
 abbrev pub fault : List ℕ → Option Refusal
 fault bs =
     or_else (front_fault bs)
     (or_else (limits_fault bs)
     (or_else (length_fault bs)
-    (or_else (first (transfer_fault bs) 0 (stations_in bs))
-    (first (record_fault bs) 0 (connections_in bs)))))
+    (or_else (transfers_fault bs)
+    (records_fault bs))))
+
+-- a check that answers the fault, if there is one
+abbrev pub Tells : {T : Type 0} → Option Refusal → Result T Refusal → Type 0
+Tells o r = MatchResult r (λ _. o ≡ None) (λ e. o ≡ Some e)
 
 -- ---- what an image means: its table, or the first thing that is wrong with it
 

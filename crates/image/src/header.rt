@@ -1,114 +1,109 @@
-//! The header: its length, mark, version and numbers, and the length that they ask for.
+//! The header: its length, mark, version and numbers.
 
-ghost use Rattle.std.specs.Prelude.{◌≡◌, ◌≤◌, length, Some, None, MatchResult};
-ghost use Rattle.image.specs.Format.{period_in, stations_in, trains_in, connections_in, front_fault, limits_fault, length_fault};
+ghost use Rattle.std.specs.Prelude.{◌≡◌, ◌==◌, ◌≤◌, not, length, position, IfOk};
+ghost use Rattle.std.specs.List.{zip};
+ghost use Rattle.image.specs.Format.{mark, period_in, stations_in, trains_in, connections_in, counts_in, front_fault, limits_fault, Tells};
 
-use crate::layout::record_place;
 use crate::words::word;
 use refusals::Refusal;
+use timetable::Counts;
 
-/// The period.
-pub(crate) fn period_of(bytes: &[u8]) -> u16
-    requires { 16 ≤ length bytes.now }
-    ensures { result ≡ period_in bytes.now }
+/// The position of the first byte that differs from the mark, if one does.
+fn wrong_mark(bytes: &[u8]) -> Option<usize>
+    ensures { result ≡ position (λ p. not (p.0 == p.1)) (zip bytes.now mark) }
 {
-    word(bytes, 6)
+    bytes
+        .iter()
+        .zip(b"PTT\0")
+        .position(|(byte, mark)| byte != mark)
 }
 
-/// The number of stations.
-pub(crate) fn stations_of(bytes: &[u8]) -> u16
-    requires { 16 ≤ length bytes.now }
-    ensures { result ≡ stations_in bytes.now }
-{
-    word(bytes, 8)
+/// The bytes of an image, long enough for its header.
+#[derive(Clone, Copy)]
+pub(crate) struct Header<'a> {
+    pub bytes: &'a [u8],
+    ghost long: { 16 ≤ length bytes.now },
 }
 
-/// The number of trains.
-pub(crate) fn trains_of(bytes: &[u8]) -> u16
-    requires { 16 ≤ length bytes.now }
-    ensures { result ≡ trains_in bytes.now }
-{
-    word(bytes, 10)
-}
+impl<'a> Header<'a> {
+    /// Refused: `ShortHeader`, `WrongMark`, `UnknownVersion`.
+    pub fn new(bytes: &'a [u8]) -> Result<Header<'a>, Refusal>
+        ensures checked { Tells (front_fault bytes.now) result }
+        ensures same { IfOk result (λ h. h.bytes.now ≡ bytes.now) }
+    {
+        if bytes.len() < 16 {
+            return Err(Refusal::ShortHeader(bytes.len()));
+        }
+        if let Some(place) = wrong_mark(bytes) {
+            return Err(Refusal::WrongMark(place));
+        }
+        let version = word(bytes, 4);
+        if version != 1 {
+            return Err(Refusal::UnknownVersion(version));
+        }
+        Ok(Header { bytes })
+    }
 
-/// The number of connections.
-pub(crate) fn connections_of(bytes: &[u8]) -> u16
-    requires { 16 ≤ length bytes.now }
-    ensures { result ≡ connections_in bytes.now }
-{
-    word(bytes, 12)
-}
+    /// The period.
+    pub fn period(&self) -> u16
+        ensures { result ≡ period_in self.now.bytes.now }
+    {
+        word(self.bytes, 6)
+    }
 
-/// Refused: `ShortHeader`, `WrongMark`, `UnknownVersion`.
-pub(crate) fn check_front(bytes: &[u8]) -> Result<(), Refusal>
-    ensures { MatchResult result (λ _. front_fault bytes.now ≡ None) (λ e. front_fault bytes.now ≡ Some e) }
-{
-    let [
-        mark_0,
-        mark_1,
-        mark_2,
-        mark_3,
-        version_low,
-        version_high,
-        rest @ ..,
-    ] = bytes
-    else {
-        return Err(Refusal::ShortHeader(bytes.len()));
-    };
-    if rest.len() < 10 {
-        return Err(Refusal::ShortHeader(bytes.len()));
+    /// The number of stations.
+    pub fn stations(&self) -> u16
+        ensures { result ≡ stations_in self.now.bytes.now }
+    {
+        word(self.bytes, 8)
     }
-    if *mark_0 != 0x50 {
-        return Err(Refusal::WrongMark(0));
-    }
-    if *mark_1 != 0x54 {
-        return Err(Refusal::WrongMark(1));
-    }
-    if *mark_2 != 0x54 {
-        return Err(Refusal::WrongMark(2));
-    }
-    if *mark_3 != 0 {
-        return Err(Refusal::WrongMark(3));
-    }
-    let version = u16::from(*version_low) + 256 * u16::from(*version_high);
-    if version != 1 {
-        return Err(Refusal::UnknownVersion(version));
-    }
-    Ok(())
-}
 
-/// Refused: `HeaderLimit`.
-pub(crate) fn check_limits(bytes: &[u8]) -> Result<(), Refusal>
-    requires { 16 ≤ length bytes.now }
-    ensures { MatchResult result (λ _. limits_fault bytes.now ≡ None) (λ e. limits_fault bytes.now ≡ Some e) }
-{
-    let period = period_of(bytes);
-    if period < 1 || period > 10080 {
-        return Err(Refusal::HeaderLimit(6));
+    /// The number of trains.
+    pub fn trains(&self) -> u16
+        ensures { result ≡ trains_in self.now.bytes.now }
+    {
+        word(self.bytes, 10)
     }
-    let stations = stations_of(bytes);
-    if stations < 1 || stations > 1024 {
-        return Err(Refusal::HeaderLimit(8));
-    }
-    if trains_of(bytes) > 4096 {
-        return Err(Refusal::HeaderLimit(10));
-    }
-    if connections_of(bytes) > 16384 {
-        return Err(Refusal::HeaderLimit(12));
-    }
-    if word(bytes, 14) != 0 {
-        return Err(Refusal::HeaderLimit(14));
-    }
-    Ok(())
-}
 
-/// Refused: `WrongLength`.
-pub(crate) fn check_length(bytes: &[u8]) -> Result<(), Refusal>
-    requires { 16 ≤ length bytes.now }
-    ensures { MatchResult result (λ _. length_fault bytes.now ≡ None) (λ e. length_fault bytes.now ≡ Some e) }
-{
-    if bytes.len() != record_place(stations_of(bytes), connections_of(bytes)) {
-        return Err(Refusal::WrongLength(bytes.len()));
+    /// The number of connections.
+    pub fn connections(&self) -> u16
+        ensures { result ≡ connections_in self.now.bytes.now }
+    {
+        word(self.bytes, 12)
     }
-    Ok(())
+
+    /// These four numbers.
+    pub fn counts(&self) -> Counts
+        ensures { result ≡ counts_in self.now.bytes.now }
+    {
+        Counts {
+            period: self.period(),
+            stations: self.stations(),
+            trains: self.trains(),
+            connections: self.connections(),
+        }
+    }
+
+    /// Refused: `HeaderLimit`.
+    pub fn check_limits(&self) -> Result<(), Refusal>
+        ensures { Tells (limits_fault self.now.bytes.now) result }
+    {
+        // Each number by its name: one loop over bytes and limits would not say which is which.
+        if !(1..=10080).contains(&self.period()) {
+            return Err(Refusal::HeaderLimit(6));
+        }
+        if !(1..=1024).contains(&self.stations()) {
+            return Err(Refusal::HeaderLimit(8));
+        }
+        if self.trains() > 4096 {
+            return Err(Refusal::HeaderLimit(10));
+        }
+        if self.connections() > 16384 {
+            return Err(Refusal::HeaderLimit(12));
+        }
+        if word(self.bytes, 14) != 0 {
+            return Err(Refusal::HeaderLimit(14));
+        }
+        Ok(())
+    }
 }

@@ -8,6 +8,7 @@ ghost use Rattle.image.specs.Written.{smallest};
 mod opening;
 mod reading;
 
+// A struct that is copied and borrows cannot have a model: `means`, in `specs/Reader`, says what it means.
 /// A timetable read from the bytes of its image, where the caller holds them.
 #[derive(Clone, Copy)]
 pub struct Image<'a> {

@@ -2,13 +2,13 @@
 
 #![tactic(auto)]
 
+mod body;
 mod header;
 pub mod image;
 mod layout;
 pub mod packing;
-mod records;
+mod record;
 pub mod round_trip;
-mod transfers;
 mod words;
 pub mod writing;
 

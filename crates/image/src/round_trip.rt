@@ -29,7 +29,6 @@ pub fn copy<'a, T: Timetable>(
 pub fn rewrite(bytes: &[u8], out: &mut [u8]) -> Result<usize, Refusal>
     ensures { MatchResult result (λ n. Rewrites bytes.now out.old out.new n) (λ e. Unwritten bytes.now (length out.old) e × (out.new ≡ out.old)) }
 {
-    let mut image = Image::smallest();
-    image.open(bytes)?;
+    let image = Image::try_from(bytes)?;
     write(&image, out)
 }

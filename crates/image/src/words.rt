@@ -8,5 +8,5 @@ pub(crate) fn word(bytes: &[u8], at: usize) -> u16
     requires { at + 1 < length bytes.now }
     ensures { result ≡ number bytes.now at }
 {
-    u16::from(bytes[at]) + 256 * u16::from(bytes[at + 1])
+    u16::from_le_bytes([bytes[at], bytes[at + 1]])
 }

@@ -1,24 +1,18 @@
 //! Writing any timetable as an image.
 
-ghost use Rattle.std.specs.Prelude.{◌≡◌, ◌+◌, ◌*◌, ◌<◌, ◌≤◌, length, MatchResult};
+ghost use Rattle.std.specs.Prelude.{◌≡◌, ℕ, ◌+◌, ◌*◌, ◌<◌, ◌≤◌, List, [], length, slice_index_or, MatchResult};
 ghost use Rattle.std.proofs.Math.Seq.{paste};
-ghost use Rattle.std.specs.List.{flat_map};
+ghost use Rattle.std.specs.List.{concat};
 ghost use Rattle.refusals.specs.declared.refusal.Refusal.TheVariants.{ShortOutput};
-ghost use Rattle.timetable.specs.Table.{stations, connections};
+ghost use Rattle.timetable.specs.Table.{at, transfer};
 ghost use Rattle.image.specs.Promises.{Writes};
-ghost use Rattle.image.specs.Written.{number_bytes, record_bytes, header_bytes, written};
+ghost use Rattle.image.specs.Written.{number_bytes, record_bytes, written};
 
-use crate::layout::{record_place, transfer_place};
+use crate::layout::record_place;
 use crate::packing::{header_bytes, number_bytes, record_bytes};
-use refusals::Refusal;
-use timetable::{ConnectionNo, Station, Timetable, connection_at, transfer_at};
-
-/// The bytes of a timetable's header.
-fn header_of<T: Timetable>(t: &T) -> [u8; 16]
-    ensures { result ≡ header_bytes (T.Means.meaning t.now) }
-{
-    header_bytes(t.period(), t.stations(), t.trains(), t.connections())
-}
+use refusals::{Refusal, enough};
+use std::convert::AsSlice;
+use timetable::{ConnectionNo, Counts, Station, Timetable, connection_at, transfer_at};
 
 /// Writes bytes into the output from a place on.
 fn put(out: &mut [u8], place: usize, bytes: &[u8])
@@ -28,45 +22,23 @@ fn put(out: &mut [u8], place: usize, bytes: &[u8])
     out[place..place + bytes.len()].copy_from_slice(bytes);
 }
 
-/// Writes the transfer times behind the header.
-fn put_transfers<T: Timetable>(t: &T, out: &mut [u8])
-    requires { 16 + 2 * stations (T.Means.meaning t.now) ≤ length out.old }
-    ensures { out.new ≡ paste out.old 16 (flat_map number_bytes (T.Means.meaning t.now).transfers) (2 * stations (T.Means.meaning t.now)) }
+/// Writes the pieces of the numbers below n, each so many bytes wide, one after another from a place on.
+fn put_pieces<P: AsSlice<u8> + Drop, F: Fn(u16) -> P>(
+    out: &mut [u8],
+    place: usize,
+    width: usize,
+    n: u16,
+    piece: F,
+)
+    requires callable { F.IsAlwaysCallable piece }
+    requires wide { (i : ℕ) (r : _) → i < n → F.post piece i r → length (P.items r) ≡ width }
+    requires fits { place + width * n ≤ length out.old }
+    ensures { (xs : List (List ℕ)) → length xs ≡ n → ((i : ℕ) (r : _) → i < n → F.post piece i r → P.items r ≡ slice_index_or xs i []) → out.new ≡ paste out.old place (concat xs) (width * n) }
 {
-    let stations = t.stations();
-    for v in 0..stations {
-        put(
-            out,
-            transfer_place(v),
-            &number_bytes(transfer_at(t, Station(v))),
-        );
+    // The output is not gone over in chunks: a proof knows nothing of what is written through those of an iterator.
+    for i in 0..n {
+        put(out, place + width * usize::from(i), piece(i).as_slice());
     }
-}
-
-/// Writes the records behind the transfer times.
-fn put_records<T: Timetable>(t: &T, out: &mut [u8])
-    requires { 16 + 2 * stations (T.Means.meaning t.now) + 12 * connections (T.Means.meaning t.now) ≤ length out.old }
-    ensures { out.new ≡ paste out.old (16 + 2 * stations (T.Means.meaning t.now)) (flat_map record_bytes (T.Means.meaning t.now).list) (12 * connections (T.Means.meaning t.now)) }
-{
-    let stations = t.stations();
-    let connections = t.connections();
-    for c in 0..connections {
-        put(
-            out,
-            record_place(stations, c),
-            &record_bytes(connection_at(t, ConnectionNo(c))),
-        );
-    }
-}
-
-/// Refused: `ShortOutput`, where fewer bytes are there than are needed.
-fn check_room(there: usize, needed: usize) -> Result<(), Refusal>
-    ensures { MatchResult result (λ _. needed ≤ there) (λ e. (there < needed) × (e ≡ ShortOutput needed)) }
-{
-    if there < needed {
-        return Err(Refusal::ShortOutput(needed));
-    }
-    Ok(())
 }
 
 /// Writes a timetable's image at the front of the output, where it opens as the same timetable, and answers its
@@ -75,10 +47,23 @@ fn check_room(there: usize, needed: usize) -> Result<(), Refusal>
 pub fn write<T: Timetable>(t: &T, out: &mut [u8]) -> Result<usize, Refusal>
     ensures { MatchResult result (λ n. Writes (T.Means.meaning t.now) out.old out.new n) (λ e. (length out.old < length (written (T.Means.meaning t.now))) × (e ≡ ShortOutput (length (written (T.Means.meaning t.now)))) × (out.new ≡ out.old)) }
 {
-    let needed = record_place(t.stations(), t.connections());
-    check_room(out.len(), needed)?;
-    put(out, 0, &header_of(t));
-    put_transfers(t, out);
-    put_records(t, out);
+    let counts = Counts::of(t);
+    let needed = record_place(counts.stations, counts.connections);
+    enough(out.len(), needed, Refusal::ShortOutput(needed))?;
+    put(out, 0, &header_bytes(counts));
+    let transfer = |v| -> [u8; 2]
+        ensures { result ≡ number_bytes (transfer (T.Means.meaning t.entry.now) v) }
+    { number_bytes(transfer_at(t, Station(v))) };
+    put_pieces(out, 16, 2, counts.stations, transfer);
+    let record = |c| -> [u8; 12]
+        ensures { result ≡ record_bytes (at (T.Means.meaning t.entry.now) c) }
+    { record_bytes(connection_at(t, ConnectionNo(c))) };
+    put_pieces(
+        out,
+        record_place(counts.stations, 0),
+        12,
+        counts.connections,
+        record,
+    );
     Ok(needed)
 }

@@ -1,22 +1,10 @@
-use crate::shared::{large_connection, largest};
+use crate::shared::{LARGEST, large_connection, largest, refused};
 use draft::examples::{example_a, example_b};
 use image::{Image, copy, rewrite, write};
-use refusals::Refusal;
 use std::alloc::Global;
 use std::process::Abort;
 use std::test::Fail;
-use timetable::{ConnectionNo, Station, Timetable};
-
-/// Number, layer and item of a refusal; zeros where there is none.
-fn told<T>(res: Result<T, Refusal>) -> (u8, u8, usize)
-where
-    T: Drop,
-{
-    match res {
-        Ok(_) => (0, 0, 0),
-        Err(refusal) => (refusal.number(), refusal.layer(), refusal.item()),
-    }
-}
+use timetable::{ConnectionNo, Counts, Station, Timetable};
 
 /// Written out again, the bytes are the same, and three bytes behind them stay; one byte less is refused.
 fn comes_back(rt: &impl Abort, heap: Global, bytes: &[u8]) -> Result<(), Fail> {
@@ -30,10 +18,11 @@ fn comes_back(rt: &impl Abort, heap: Global, bytes: &[u8]) -> Result<(), Fail> {
     assert_eq!(rt; rewrite(bytes, exact.as_mut_slice())?, length);
     assert!(rt; exact.as_slice() == bytes);
     let mut short = vec![in heap; 7; length.saturating_sub(1)]?;
-    assert_eq!(rt; told(rewrite(bytes, short.as_mut_slice())), (12, 1, length));
-    for byte in short.iter() {
-        assert_eq!(rt; *byte, 7);
-    }
+    assert_eq!(rt;
+        refused(rewrite(bytes, short.as_mut_slice())),
+        Some((12, 1, length))
+    );
+    assert!(rt; short.iter().all(|byte| *byte == 7));
     Ok(())
 }
 
@@ -50,19 +39,20 @@ fn examples(rt: HostRuntime) -> Result<(), Fail> {
 
 /// What the largest timetable answers.
 fn ask_largest<T: Timetable>(rt: &impl Abort, t: &T) -> Result<(), Fail> {
-    for number in 0..16384 {
+    for number in 0..LARGEST.connections {
         assert!(rt; t.connection(ConnectionNo(number))? == large_connection(number));
     }
     assert_eq!(rt; t.transfer(Station(1023))?, 1440);
-    assert_eq!(rt; told(t.transfer(Station(1024))), (10, 1, 1024));
-    assert_eq!(rt; told(t.connection(ConnectionNo(16384))), (10, 1, 16384));
+    assert_eq!(rt; refused(t.transfer(Station(1024))), Some((10, 1, 1024)));
+    assert_eq!(rt;
+        refused(t.connection(ConnectionNo(16384))),
+        Some((10, 1, 16384))
+    );
     Ok(())
 }
 
 fn open_largest(rt: &impl Abort, bytes: &[u8]) -> Result<(), Fail> {
-    let mut image = Image::smallest();
-    image.open(bytes)?;
-    ask_largest(rt, &image)
+    ask_largest(rt, &Image::try_from(bytes)?)
 }
 
 #[test]
@@ -77,42 +67,47 @@ fn largest_of_all(rt: HostRuntime) -> Result<(), Fail> {
 
 /// What timetable A answers.
 fn ask_a<T: Timetable>(rt: &impl Abort, t: &T) -> Result<(), Fail> {
-    assert_eq!(rt;
-        (t.period(), t.stations(), t.trains(), t.connections()),
-        (1440, 3, 5, 6)
-    );
+    let counts = Counts {
+        period: 1440,
+        stations: 3,
+        trains: 5,
+        connections: 6,
+    };
+    assert_eq!(rt; Counts::of(t), counts);
     assert_eq!(rt; t.transfer(Station(2))?, 4);
-    assert_eq!(rt; told(t.transfer(Station(3))), (10, 1, 3));
-    assert_eq!(rt; told(t.transfer(Station(65535))), (10, 1, 65535));
+    assert_eq!(rt; refused(t.transfer(Station(3))), Some((10, 1, 3)));
+    assert_eq!(rt; refused(t.transfer(Station(65535))), Some((10, 1, 65535)));
     assert_eq!(rt; t.connection(ConnectionNo(4))?.departure, 1430);
-    assert_eq!(rt; told(t.connection(ConnectionNo(6))), (10, 1, 6));
-    assert_eq!(rt; told(t.connection(ConnectionNo(65535))), (10, 1, 65535));
+    assert_eq!(rt; refused(t.connection(ConnectionNo(6))), Some((10, 1, 6)));
+    assert_eq!(rt;
+        refused(t.connection(ConnectionNo(65535))),
+        Some((10, 1, 65535))
+    );
     Ok(())
 }
 
 #[test]
 fn questions(rt: HostRuntime) -> Result<(), Fail> {
     let a = example_a(rt.alloc())?;
-    let mut image = Image::smallest();
-    image.open(a.bytes())?;
-    ask_a(&rt, &image)
+    ask_a(&rt, &Image::try_from(a.bytes())?)
 }
 
 #[test]
 fn questions_to_the_smallest(rt: HostRuntime) -> Result<(), Fail> {
     let image = Image::smallest();
-    assert_eq!(rt;
-        (
-            image.period(),
-            image.stations(),
-            image.trains(),
-            image.connections(),
-        ),
-        (1, 1, 0, 0)
-    );
+    let counts = Counts {
+        period: 1,
+        stations: 1,
+        trains: 0,
+        connections: 0,
+    };
+    assert_eq!(rt; Counts::of(&image), counts);
     assert_eq!(rt; image.transfer(Station(0))?, 0);
-    assert_eq!(rt; told(image.transfer(Station(1))), (10, 1, 1));
-    assert_eq!(rt; told(image.connection(ConnectionNo(0))), (10, 1, 0));
+    assert_eq!(rt; refused(image.transfer(Station(1))), Some((10, 1, 1)));
+    assert_eq!(rt;
+        refused(image.connection(ConnectionNo(0))),
+        Some((10, 1, 0))
+    );
     Ok(())
 }
 
@@ -121,10 +116,10 @@ fn refused_keeps(rt: HostRuntime) -> Result<(), Fail> {
     let a = example_a(rt.alloc())?;
     let mut image = Image::smallest();
     image.open(a.bytes())?;
-    assert_eq!(rt; told(image.open(b"PTT")), (1, 1, 3));
+    assert_eq!(rt; refused(image.open(b"PTT")), Some((1, 1, 3)));
     assert_eq!(rt; image.period(), 1440);
     let mut short = [7; 93];
-    assert_eq!(rt; told(write(&image, &mut short)), (12, 1, 94));
+    assert_eq!(rt; refused(write(&image, &mut short)), Some((12, 1, 94)));
     assert!(rt; short == [7; 93]);
     let mut out = [7; 94];
     let mut reader = Image::smallest();

@@ -3,23 +3,30 @@
 use crate::shared::*;
 use draft::Draft;
 use draft::examples::runs;
-use image::Image;
 use std::alloc::{AllocError, Global};
 use std::process::Abort;
 use std::test::Fail;
-use timetable::Timetable;
+use timetable::{Counts, Timetable};
 
 /// An hour with no transfer times: train 0 goes from 0 to 1 over the end of the hour and stays there until it goes on to 2;
 /// train 1 goes from 1 to 2.
 fn night(heap: Global) -> Result<Draft, AllocError> {
-    let mut draft = Draft::new(heap, 60, 3, 2, 3)?;
-    draft.transfer(0)?;
-    draft.transfer(0)?;
-    draft.transfer(0)?;
-    draft.connection(runs(0, 0, 1, 50, 20))?;
-    draft.connection(runs(0, 1, 2, 5, 10))?;
-    draft.connection(runs(1, 1, 2, 12, 10))?;
-    Ok(draft)
+    let counts = Counts {
+        period: 60,
+        stations: 3,
+        trains: 2,
+        connections: 3,
+    };
+    Draft::of(
+        heap,
+        counts,
+        &[0, 0, 0],
+        &[
+            runs(0, 0, 1, 50, 20),
+            runs(0, 1, 2, 5, 10),
+            runs(1, 1, 2, 12, 10),
+        ],
+    )
 }
 
 fn over_the_end<T: Timetable>(rt: &impl Abort, t: &T) -> Result<(), Fail> {
@@ -39,10 +46,11 @@ fn over_the_end<T: Timetable>(rt: &impl Abort, t: &T) -> Result<(), Fail> {
             ],
         )
     );
-    assert_eq!(rt; pairs(t, 1, &memory, 2), (1, (50, 82), (8, 8)));
-    assert_eq!(rt; arrival(t, 1, &memory, 2, 51), (110, 142));
+    let rows = Rows::new(t, 0, 1, &memory);
+    assert_eq!(rt; rows.pairs(2)?, (1, (50, 82), (8, 8)));
+    assert_eq!(rt; rows.arrive(2, 51)?, (110, 142));
     assert_eq!(rt;
-        legs(t, 1, &memory, 2, 51),
+        rows.legs(2, 51)?,
         (2, (0, 0, 0, 110, 130), (1, 2, 2, 132, 142))
     );
     Ok(())
@@ -50,28 +58,30 @@ fn over_the_end<T: Timetable>(rt: &impl Abort, t: &T) -> Result<(), Fail> {
 
 #[test]
 fn stays_over_the_end(rt: HostRuntime) -> Result<(), Fail> {
-    let draft = night(rt.alloc())?;
-    let mut image = Image::smallest();
-    image.open(draft.bytes())?;
-    over_the_end(&rt, &image)
+    over(&night(rt.alloc())?, |t| over_the_end(&rt, t))
 }
 
 /// One train alone, which stands 55 minutes at station 1.
 fn alone(heap: Global) -> Result<Draft, AllocError> {
-    let mut draft = Draft::new(heap, 60, 3, 1, 2)?;
-    draft.transfer(5)?;
-    draft.transfer(5)?;
-    draft.transfer(5)?;
-    draft.connection(runs(0, 0, 1, 50, 20))?;
-    draft.connection(runs(0, 1, 2, 5, 10))?;
-    Ok(draft)
+    let counts = Counts {
+        period: 60,
+        stations: 3,
+        trains: 1,
+        connections: 2,
+    };
+    Draft::of(
+        heap,
+        counts,
+        &[5, 5, 5],
+        &[runs(0, 0, 1, 50, 20), runs(0, 1, 2, 5, 10)],
+    )
 }
 
 fn one_leg<T: Timetable>(rt: &impl Abort, t: &T) -> Result<(), Fail> {
     let mut memory = [OLD; 6];
     assert_eq!(rt; by_heaps(t, 0, 1, 7, &mut memory)?, (1, 4));
     assert_eq!(rt;
-        legs(t, 1, &memory, 2, 10),
+        Rows::new(t, 0, 1, &memory).legs(2, 10)?,
         (1, (0, 0, 1, 50, 135), UNWRITTEN)
     );
     Ok(())
@@ -79,16 +89,21 @@ fn one_leg<T: Timetable>(rt: &impl Abort, t: &T) -> Result<(), Fail> {
 
 #[test]
 fn a_long_stay(rt: HostRuntime) -> Result<(), Fail> {
-    let draft = alone(rt.alloc())?;
-    let mut image = Image::smallest();
-    image.open(draft.bytes())?;
-    one_leg(&rt, &image)
+    over(&alone(rt.alloc())?, |t| one_leg(&rt, t))
 }
 
 /// A hub minute: four trains leave 0 at minute 50 and reach the hub, station 1, at 60; there a train leaves for each of four
 /// stations in that same minute. Every train has one connection.
 fn hub(heap: Global) -> Result<Draft, AllocError> {
-    let mut draft = Draft::new(heap, 60, 6, 8, 8)?;
+    let mut draft = Draft::new(
+        heap,
+        Counts {
+            period: 60,
+            stations: 6,
+            trains: 8,
+            connections: 8,
+        },
+    )?;
     for _ in 0..6 {
         draft.transfer(0)?;
     }
@@ -101,7 +116,7 @@ fn hub(heap: Global) -> Result<Draft, AllocError> {
     Ok(draft)
 }
 
-/// All but its first ride is the highest rank's.
+/// The row of the highest rank: all leading labels but the first rides of the other ranks.
 const LAST_ROW: [(u32, u32); 15] = [
     (50, 3),
     (NONE, NONE),
@@ -124,18 +139,13 @@ fn hub_minute<T: Timetable>(rt: &impl Abort, t: &T) -> Result<(), Fail> {
     let mut memory = [OLD; 60];
     assert_eq!(rt; by_buckets(t, 0, 4, 100, &mut memory)?, (4, 13));
     assert!(rt; holds(&memory[45..60], &LAST_ROW));
-    assert_eq!(rt; pairs(t, 4, &memory, 5), (1, (50, 68), (8, 8)));
-    assert_eq!(rt;
-        legs(t, 4, &memory, 2, 0),
-        (2, (3, 3, 3, 50, 60), (4, 4, 4, 60, 65))
-    );
+    let rows = Rows::new(t, 0, 4, &memory);
+    assert_eq!(rt; rows.pairs(5)?, (1, (50, 68), (8, 8)));
+    assert_eq!(rt; rows.legs(2, 0)?, (2, (3, 3, 3, 50, 60), (4, 4, 4, 60, 65)));
     Ok(())
 }
 
 #[test]
 fn the_hub(rt: HostRuntime) -> Result<(), Fail> {
-    let draft = hub(rt.alloc())?;
-    let mut image = Image::smallest();
-    image.open(draft.bytes())?;
-    hub_minute(&rt, &image)
+    over(&hub(rt.alloc())?, |t| hub_minute(&rt, t))
 }

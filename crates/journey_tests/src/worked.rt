@@ -2,11 +2,10 @@
 
 use crate::shared::*;
 use draft::examples::{example_a, example_b};
-use image::Image;
 use notices::Notices;
 use std::process::Abort;
 use std::test::Fail;
-use timetable::{Label, Timetable, Train};
+use timetable::{Timetable, Train};
 
 /// The rows of timetable A from station 0: three rows of ten entries.
 const ROWS: [(u32, u32); 31] = [
@@ -43,32 +42,33 @@ const ROWS: [(u32, u32); 31] = [
     (9, 9),
 ];
 
-fn arrivals_of_a<T: Timetable>(rt: &impl Abort, t: &T, memory: &[Label]) {
-    assert_eq!(rt; arrival(t, 3, memory, 2, 490), (490, 535));
-    assert_eq!(rt; arrival(t, 3, memory, 2, 491), (1430, 1470));
-    assert_eq!(rt; arrival(t, 3, memory, 2, 1431), (1930, 1975));
+fn arrivals_of_a<T: Timetable>(rt: &impl Abort, rows: &Rows<T>) -> Result<(), Fail> {
+    assert_eq!(rt; rows.arrive(2, 490)?, (490, 535));
+    assert_eq!(rt; rows.arrive(2, 491)?, (1430, 1470));
+    assert_eq!(rt; rows.arrive(2, 1431)?, (1930, 1975));
+    Ok(())
 }
 
-fn questions_of_a<T: Timetable>(rt: &impl Abort, t: &T, memory: &[Label]) {
-    assert_eq!(rt; pairs(t, 3, memory, 2), (2, (490, 535), (1430, 1470)));
-    assert_eq!(rt; pairs(t, 3, memory, 1), (1, (490, 500), (8, 8)));
-    arrivals_of_a(rt, t, memory);
+fn questions_of_a<T: Timetable>(rt: &impl Abort, rows: &Rows<T>) -> Result<(), Fail> {
+    assert_eq!(rt; rows.pairs(2)?, (2, (490, 535), (1430, 1470)));
+    assert_eq!(rt; rows.pairs(1)?, (1, (490, 500), (8, 8)));
+    arrivals_of_a(rt, rows)?;
     assert_eq!(rt;
-        legs(t, 3, memory, 2, 490),
+        rows.legs(2, 490)?,
         (2, (1, 2, 2, 490, 500), (0, 1, 1, 505, 535))
     );
     assert_eq!(rt;
-        legs(t, 3, memory, 2, 1431),
+        rows.legs(2, 1431)?,
         (2, (1, 2, 2, 1930, 1940), (0, 1, 1, 1945, 1975))
     );
+    Ok(())
 }
 
 fn a_by_heaps<T: Timetable>(rt: &impl Abort, t: &T) -> Result<(), Fail> {
     let mut memory = [OLD; 31];
     assert_eq!(rt; by_heaps(t, 0, 3, 57, &mut memory)?, (3, 9));
     assert!(rt; holds(&memory, &ROWS));
-    questions_of_a(rt, t, &memory);
-    Ok(())
+    questions_of_a(rt, &Rows::new(t, 0, 3, &memory))
 }
 
 fn a_by_buckets<T: Timetable>(rt: &impl Abort, t: &T) -> Result<(), Fail> {
@@ -85,32 +85,28 @@ fn a<T: Timetable>(rt: &impl Abort, t: &T) -> Result<(), Fail> {
 
 #[test]
 fn timetable_a(rt: HostRuntime) -> Result<(), Fail> {
-    let draft = example_a(rt.alloc())?;
-    let mut image = Image::smallest();
-    image.open(draft.bytes())?;
-    a(&rt, &image)
+    over(&example_a(rt.alloc())?, |t| a(&rt, t))
 }
 
 fn b<T: Timetable>(rt: &impl Abort, t: &T) -> Result<(), Fail> {
     let mut memory = [OLD; 10];
     assert_eq!(rt; by_buckets(t, 0, 2, 14, &mut memory)?, (2, 4));
-    assert_eq!(rt; pairs(t, 2, &memory, 1), (1, (5, 15), (8, 8)));
-    assert_eq!(rt; arrival(t, 2, &memory, 1, 50), (65, 75));
+    let rows = Rows::new(t, 0, 2, &memory);
+    assert_eq!(rt; rows.pairs(1)?, (1, (5, 15), (8, 8)));
+    assert_eq!(rt; rows.arrive(1, 50)?, (65, 75));
     Ok(())
 }
 
 #[test]
 fn timetable_b(rt: HostRuntime) -> Result<(), Fail> {
-    let draft = example_b(rt.alloc())?;
-    let mut image = Image::smallest();
-    image.open(draft.bytes())?;
-    b(&rt, &image)
+    over(&example_b(rt.alloc())?, |t| b(&rt, t))
 }
 
 fn late_2<T: Timetable>(rt: &impl Abort, t: &T) -> Result<(), Fail> {
     let mut memory = [OLD; 30];
     assert_eq!(rt; by_heaps(t, 0, 3, 57, &mut memory)?, (3, 9));
-    assert_eq!(rt; pairs(t, 3, &memory, 2), (2, (490, 530), (1430, 1470)));
+    let rows = Rows::new(t, 0, 3, &memory);
+    assert_eq!(rt; rows.pairs(2)?, (2, (490, 530), (1430, 1470)));
     Ok(())
 }
 
@@ -118,7 +114,7 @@ fn without_1<T: Timetable>(rt: &impl Abort, t: &T) -> Result<(), Fail> {
     let mut memory = [OLD; 20];
     assert_eq!(rt; by_heaps(t, 0, 2, 38, &mut memory)?, (2, 8));
     assert_eq!(rt;
-        legs(t, 2, &memory, 2, 480),
+        Rows::new(t, 0, 2, &memory).legs(2, 480)?,
         (1, (0, 0, 1, 480, 535), UNWRITTEN)
     );
     Ok(())
@@ -134,9 +130,7 @@ fn reported<T: Timetable>(rt: &impl Abort, t: &mut Notices<T>) -> Result<(), Fai
 
 #[test]
 fn timetable_a_under_notices(rt: HostRuntime) -> Result<(), Fail> {
-    let draft = example_a(rt.alloc())?;
-    let mut image = Image::smallest();
-    image.open(draft.bytes())?;
-    let mut t = Notices::new(image);
-    reported(&rt, &mut t)
+    over(&example_a(rt.alloc())?, |t| {
+        reported(&rt, &mut Notices::new(*t))
+    })
 }

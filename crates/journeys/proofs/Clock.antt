@@ -19,6 +19,7 @@ wait_cases d r p h k = elim (dec_lt d r) [ yes l ↦ inr (l, over l) | no l ↦ 
     under : r ≤ d → (d + (p - r)) % p ≡ d - r
     under l = let e : d + (p - r) ≡ d - r + p = omega arith in rw e (add-mod_right (d - r) p ∙ mod-eq_of_lt (omega arith))
 
+-- the library's lemma with every argument written out, as the places that use it have to
 pub times : (k m n : ℕ) → m ≤ n → k * m ≤ k * n
 times k m n h = mul-le-mul_left k h
 

@@ -1,12 +1,12 @@
 -- The worked examples, by the checks.
-use Rattle.std.proofs.Common.{◌≡◌, ℕ, zero, suc, ◌+◌, ◌<◌, ◌≤◌, true, cond, eqb, [], ◌∷◌, pos, refl, ap, inl, inr, arith}
+use Rattle.std.proofs.Common.{◌≡◌, ℕ, zero, suc, ◌+◌, ◌<◌, ◌≤◌, true, cond, eqb, [], ◌∷◌, pos, Some, None, refl, ap, inl, inr, arith}
 use borrow.Author.Differences.{ints}
 use Rattle.timetable.specs.Table.{Lawful, LawfulConnection, at, connections, stations, transfer}
 use Rattle.timetable.specs.Itinerary.{Departs, Stays}
 use Rattle.timetable.specs.Legs.{ride_at, ends, stays, changes}
 use Rattle.timetable.specs.Labels.{inserted, firsts_below, ranks}
 use Rattle.timetable.specs.Examples.{timetable_a, timetable_b}
-use Rattle.timetable.specs.declared.report.Report.TheVariants.{Nothing, Cancelled, Late}
+use Rattle.timetable.specs.declared.report.Report.TheVariants.{Cancelled, Late}
 use Rattle.timetable.proofs.Lawfulness.{noticed_lawful}
 use Rattle.journeys.specs.Checked.{complete}
 use Rattle.journeys.specs.Profiles.{profile_check, ProfileIs, JourneyIs}
@@ -86,7 +86,7 @@ unfolding inserted firsts_below
 ranks_b = refl
 
 lawful_late : Lawful a_late
-lawful_late = noticed_lawful timetable_a (λ z. cond (eqb z 2) (Late 1) Nothing) lawful_a
+lawful_late = noticed_lawful timetable_a (λ z. cond (eqb z 2) (Some (Late 1)) None) lawful_a
 
 complete_late : complete a_late 0 labels_late ≡ true
 unfolding inserted firsts_below
@@ -97,7 +97,7 @@ unfolding inserted firsts_below
 ranks_late = refl
 
 lawful_cancelled : Lawful a_cancelled
-lawful_cancelled = noticed_lawful timetable_a (λ z. cond (eqb z 1) Cancelled Nothing) lawful_a
+lawful_cancelled = noticed_lawful timetable_a (λ z. cond (eqb z 1) (Some Cancelled) None) lawful_a
 
 complete_cancelled : complete a_cancelled 0 labels_cancelled ≡ true
 unfolding inserted firsts_below

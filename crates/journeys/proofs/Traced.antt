@@ -219,10 +219,6 @@ module _ (t : Table) (l : Lawful t) (s : ℕ) where
           left = λ z. absurd (omega arith);
         }
 
-    chain_settled : (e : Entry) (es : List Entry) → Chain t s done e es → Mem e done
-    chain_settled e es (from _ m f o) = m
-    chain_settled e es (back _ g gs m r p k h c) = m
-
     tale_of : (e : Entry) (es : List Entry) → Chain t s done e es → Tale e es
     tale_of e es (from _ m f o) = tale_first e f
     tale_of e es (back _ g gs m r p k h c) = with_head gs c (tale_of g gs c)

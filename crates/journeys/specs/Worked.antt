@@ -1,21 +1,21 @@
 -- Worked examples of the two example timetables, stated of the definitions.
-use Rattle.std.specs.Prelude.{◌≡◌, ℕ, cond, List, [], ◌∷◌, length, pos, ◌==◌}
+use Rattle.std.specs.Prelude.{◌≡◌, ℕ, cond, List, [], ◌∷◌, length, pos, Some, None, ◌==◌}
 use Rattle.timetable.specs.Table.{Table, Lawful}
 use Rattle.timetable.specs.Labels.{ranks}
 use Rattle.timetable.specs.Noticed.{noticed}
 use Rattle.timetable.specs.Examples.{timetable_a, timetable_b}
 use Rattle.timetable.specs.declared.leg.Leg.{Leg}
-use Rattle.timetable.specs.declared.report.Report.TheVariants.{Nothing, Cancelled, Late}
+use Rattle.timetable.specs.declared.report.Report.TheVariants.{Cancelled, Late}
 use Rattle.journeys.specs.Search.{Entry, entry}
 use Rattle.journeys.specs.Theorems.{SettledExactly}
 use Rattle.journeys.specs.Profiles.{ProfileIs, FirstAt, JourneyIs}
 
 -- A with train 2 late by 1, and with train 1 cancelled
 abbrev pub a_late : Table
-a_late = noticed timetable_a (λ z. cond (z == 2) (Late 1) Nothing)
+a_late = noticed timetable_a (λ z. cond (z == 2) (Some (Late 1)) None)
 
 abbrev pub a_cancelled : Table
-a_cancelled = noticed timetable_a (λ z. cond (z == 1) Cancelled Nothing)
+a_cancelled = noticed timetable_a (λ z. cond (z == 1) (Some Cancelled) None)
 
 -- the leading labels from station 0, by minute: minute, rank, place, origin
 abbrev pub labels_a : List Entry

@@ -1,7 +1,7 @@
 -- Agreement pins the book, and the law's lines have no refusal for rows that no search wrote.
-use Rattle.std.proofs.Common.{◌≡◌, ℕ, ◌*◌, Bool, true, false, cond, eqb, ltb, leb, ◌⊎◌, List, length, Some, None, Err, Option, Result, sym, refl, ap, ◌∙◌, inl, inr, arith, MatchOption}
+use Rattle.std.proofs.Common.{◌≡◌, ℕ, ◌*◌, Bool, true, false, cond, eqb, ltb, leb, List, length, Some, None, Err, Option, Result, sym, refl, ap, ◌∙◌, inl, inr, MatchOption}
 use Rattle.refusals.specs.declared.refusal.Refusal.{Refusal}
-use Rattle.refusals.specs.declared.refusal.Refusal.TheVariants.{NoSearch, NoTarget, TargetIsSource, MinuteLimit, ShortRows, ForeignRows, Unreachable, ShortAnswer}
+use Rattle.refusals.specs.declared.refusal.Refusal.TheVariants.{NoSearch, NoTarget, TargetIsSource, ShortRows, ForeignRows}
 use Rattle.timetable.specs.declared.label.Label.{Label}
 use Rattle.timetable.specs.declared.leg.Leg.{Leg}
 use Rattle.timetable.specs.declared.pair.Pair.{Pair}
@@ -38,53 +38,32 @@ not_first true e rest i h k q = h (cc)
 not_first false e rest i h k q = k q
 
 module _ (t : Table) (s m v len i : ℕ) where
-  differs : (e : Refusal) → ((e ≡ NoTarget v) ⊎ (e ≡ TargetIsSource v)) ⊎ ((e ≡ Unreachable v) ⊎ (e ≡ NoSearch)) → e ≡ ForeignRows i → ⊥
-  differs e (inl (inl p)) q = let z : ◌≡◌ {A = ℕ} 0 1 = cc in omega arith
-  differs e (inl (inr p)) q = let z : ◌≡◌ {A = ℕ} 0 1 = cc in omega arith
-  differs e (inr (inl p)) q = let z : ◌≡◌ {A = ℕ} 0 1 = cc in omega arith
-  differs e (inr (inr p)) q = let z : ◌≡◌ {A = ℕ} 0 1 = cc in omega arith
-
-  not_short : ShortRows (m * width t) ≡ ForeignRows i → ⊥
-  not_short q = let z : ◌≡◌ {A = ℕ} 0 1 = cc in omega arith
-
-  not_late : (n : ℕ) → MinuteLimit n ≡ ForeignRows i → ⊥
-  not_late n q = let z : ◌≡◌ {A = ℕ} 0 1 = cc in omega arith
-
-  not_full : (k : ℕ) → ForeignRows i ≡ ShortAnswer k → ⊥
-  not_full k q = let z : ◌≡◌ {A = ℕ} 0 1 = cc in omega arith
-
-  not_none : None ≡ Some (ForeignRows i) → ⊥
-  not_none q = let z : ◌≡◌ {A = ℕ} 0 1 = cc in omega arith
-
   not_rows : cond (ltb len (m * width t)) (Some (ShortRows (m * width t))) None ≡ Some (ForeignRows i) → ⊥
-  not_rows = not_first (ltb len (m * width t)) _ None i not_short not_none
+  not_rows = not_first (ltb len (m * width t)) _ None i (λ q. cc) (λ q. cc)
 
   not_target : (rest : Option Refusal) → (rest ≡ Some (ForeignRows i) → ⊥) → cond (leb (stations t) v) (Some (NoTarget v)) (cond (eqb v s) (Some (TargetIsSource v)) rest) ≡ Some (ForeignRows i) → ⊥
-  not_target rest h = not_first (leb (stations t) v) _ _ i (differs _ (inl (inl refl))) (not_first (eqb v s) _ _ i (differs _ (inl (inr refl))) h)
+  not_target rest h = not_first (leb (stations t) v) _ _ i (λ q. cc) (not_first (eqb v s) _ _ i (λ q. cc) h)
 
   not_asked : (n : ℕ) → asked t s m v n len ≡ Some (ForeignRows i) → ⊥
-  not_asked n = not_target _ (not_first (leb t.period n) _ _ i (not_late n) not_rows)
+  not_asked n = not_target _ (not_first (leb t.period n) _ _ i (λ q. cc) not_rows)
 
   not_asked_profile : asked_profile t s m v len ≡ Some (ForeignRows i) → ⊥
   not_asked_profile = not_target _ not_rows
 
-  not_unreachable : ForeignRows i ≡ Unreachable v → ⊥
-  not_unreachable q = differs _ (inr (inl q)) refl
-
 module _ (t : Table) (memory : List Label) (v n i : ℕ) where
   not_arrive : (s : ℕ) → ArriveTold t s memory v n (Err (ForeignRows i)) → ⊥
   not_arrive s (inl q) = not_asked t s (ranks t s) v (length memory) i n q
-  not_arrive s (inr q) = not_unreachable t s (ranks t s) v (length memory) i q.1
+  not_arrive s (inr q) = let e = q.1 in cc
 
   not_profile : (s : ℕ) (out out' : List Pair) → ProfileTold t s memory v out (Err (ForeignRows i)) out' → ⊥
   not_profile s out out' (_, inl q) = not_asked_profile t s (ranks t s) v (length memory) i q
-  not_profile s out out' (_, inr (_, inl q)) = not_unreachable t s (ranks t s) v (length memory) i q.0
-  not_profile s out out' (_, inr (_, inr q)) = not_full t s (ranks t s) v (length memory) i (length q.0) q.3
+  not_profile s out out' (_, inr (_, inl q)) = let e = q.0 in cc
+  not_profile s out out' (_, inr (_, inr q)) = let e = q.3 in cc
 
   not_journey : (s : ℕ) (out out' : List Leg) → JourneyTold t s memory v n out (Err (ForeignRows i)) out' → ⊥
   not_journey s out out' (_, inl q) = not_asked t s (ranks t s) v (length memory) i n q
-  not_journey s out out' (_, inr (_, inl q)) = not_unreachable t s (ranks t s) v (length memory) i q.0
-  not_journey s out out' (_, inr (_, inr q)) = not_full t s (ranks t s) v (length memory) i (length q.0) q.3
+  not_journey s out out' (_, inr (_, inl q)) = let e = q.0 in cc
+  not_journey s out out' (_, inr (_, inr q)) = let e = q.3 in cc
 
 by_source : (source : Option ℕ) (N : Type 0) (Q : ℕ → Type 0) → (N → ⊥) → ((s : ℕ) → Q s → ⊥) → MatchOption source N Q → ⊥
 by_source None N Q h k q = h q
@@ -98,4 +77,4 @@ never_foreign t b memory v n i = (
 )
   where
     none : {X : Type 0} → ◌≡◌ {A = Result X Refusal} (Err (ForeignRows i)) (Err NoSearch) → ⊥
-    none q = let z : ◌≡◌ {A = ℕ} 0 1 = cc in omega arith
+    none q = cc

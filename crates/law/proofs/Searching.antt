@@ -17,7 +17,7 @@ use Rattle.law.specs.Agreement.{Agrees}
 use Rattle.law.proofs.Fronts.{rows_longer}
 use Rattle.law.proofs.Reports.{same_table}
 
-module _ (t : Table) (b : Book) (slots : List Notice) (standing : Option Standing) (memory memory' rest : List Label) (source : Station) (board labels : ℕ) (a : Agrees t b slots standing (memory ++ rest)) where
+module _ (t : Table) (b : Book) (slots : List (Option Notice)) (standing : Option Standing) (memory memory' rest : List Label) (source : Station) (board labels : ℕ) (a : Agrees t b slots standing (memory ++ rest)) where
   pub search_accepted : (f : Found) → search_refusal (noticed t (found slots)) source.0 board labels (length memory) ≡ None → Searched (noticed t (found slots)) source.0 memory memory' f
       → SearchLine t b source.0 board labels memory (Ok f) memory' × Agrees t (searched b source.0) slots (Some (record { source = source; rows = f.departures })) (memory' ++ rest)
   search_accepted f n w =

@@ -1,6 +1,6 @@
 -- The law of the three questions: from what they promise of rows as they stand, where the rows are those of the book's
 -- source and the memory lent is the front of one that has them.
-use Rattle.std.proofs.Common.{◌≡◌, ℕ, ◌*◌, ◌<◌, ◌≤◌, eqb, ltb, leb, List, ◌++◌, length, drop, Some, None, Ok, Err, Option, Result, sym, refl, ap, subst, subst₂, inl, inr, ⊎_elim, arith, MatchOption}
+use Rattle.std.proofs.Common.{◌≡◌, ℕ, ◌*◌, ◌<◌, ◌≤◌, eqb, ltb, leb, List, ◌++◌, length, drop, Some, None, Ok, Err, Option, Result, refl, ap, subst, subst₂, inl, inr, ⊎_elim, arith, MatchOption}
 use Rattle.std.proofs.lemmas.List.{length-append, length-drop}
 use Rattle.std.proofs.lemmas.Bool.{cases_lt, ltb-false}
 use Rattle.refusals.specs.declared.refusal.Refusal.{Refusal}
@@ -14,6 +14,7 @@ use Rattle.timetable.specs.Noticed.{noticed}
 use Rattle.timetable.specs.Rows.{Rows, width}
 use Rattle.notices.specs.declared.notice.Notice.{Notice}
 use Rattle.notices.specs.Slots.{found}
+use Rattle.notices.proofs.Entering.{past}
 use Rattle.questions.specs.declared.standing.Standing.{Standing}
 use Rattle.answers.specs.Promises.{rows_refusal, minute_refusal, target_refusal, asked, asked_profile, Arrived, Profiled, Journeyed}
 use Rattle.answers.specs.Subject.{ArriveTold, ProfileTold, JourneyTold}
@@ -21,7 +22,7 @@ use Rattle.law.specs.Book.{Book, in_force}
 use Rattle.law.specs.Lines.{ArriveLine, ProfileLine, JourneyLine}
 use Rattle.law.specs.Agreement.{Agrees, Stands}
 use Rattle.law.proofs.Fronts.{rows_front}
-use Rattle.law.proofs.Reports.{same_table, past}
+use Rattle.law.proofs.Reports.{same_table}
 
 -- ---- a memory that is too short for the rows is refused
 
@@ -41,7 +42,7 @@ module _ (t : Table) (s m v len : ℕ) where
 -- ---- and then the rows are not looked at
 
 module _ (t : Table) (s v : ℕ) (memory : List Label) (short : length memory < ranks t s * width t) where
-  arrive_short : (n : ℕ) (r : Result (ℕ × ℕ) Refusal) → Arrived t s (ranks t s) memory v n r → ArriveTold t s memory v n r
+  arrive_short : (n : ℕ) (r : Result Pair Refusal) → Arrived t s (ranks t s) memory v n r → ArriveTold t s memory v n r
   arrive_short n (Ok x) p = absurd (omega (arith, asked_long t s (ranks t s) v (length memory) n p.0))
   arrive_short n (Err e) (inl p) = inl p
   arrive_short n (Err e) (inr p) = absurd (omega (arith, asked_long t s (ranks t s) v (length memory) n p.0))
@@ -59,7 +60,7 @@ module _ (t : Table) (s v : ℕ) (memory : List Label) (short : length memory < 
 -- ---- the lines
 
 -- a question's answer by the rows as they stand, P, is also what a search's rows tell, Q
-module _ (t : Table) (b : Book) (memory rest : List Label) (slots : List Notice) (x : Standing) (P : Table → ℕ → ℕ → Type 0) (Q : Table → ℕ → Type 0)
+module _ (t : Table) (b : Book) (memory rest : List Label) (slots : List (Option Notice)) (x : Standing) (P : Table → ℕ → ℕ → Type 0) (Q : Table → ℕ → Type 0)
     (answer : P (noticed t (found slots)) x.source.0 x.rows)
     (told : Rows (noticed t (found slots)) x.source.0 memory → x.rows ≡ ranks (noticed t (found slots)) x.source.0 → Q (noticed t (found slots)) x.source.0)
     (unread : (u : Table) (s : ℕ) → length memory < ranks u s * width u → P u s (ranks u s) → Q u s) where
@@ -93,27 +94,12 @@ module _ (t : Table) (s m v : ℕ) (memory : List Label) where
 
 -- ---- of a planner and a memory that agree with a book
 
--- with no standing search the book names no source
-no_source : (t : Table) (memory : List Label) (N : Type 0) (Q : ℕ → Type 0) (source : Option ℕ) (standing : Option Standing) → standing ≡ None → Stands t source standing memory → N → MatchOption source N Q
-no_source t memory N Q None standing e w x = x
-no_source t memory N Q (Some s) None e w x = absurd w
-no_source t memory N Q (Some s) (Some y) e w x = let z : ◌≡◌ {A = ℕ} 0 1 = cc in absurd (omega arith)
-
-module _ (t : Table) (b : Book) (memory rest : List Label) (slots : List Notice) (standing : Option Standing) (a : Agrees t b slots standing (memory ++ rest)) (v : ℕ) where
-  pub arrive_none : (n : ℕ) (r : Result (ℕ × ℕ) Refusal) → standing ≡ None → r ≡ Err NoSearch → ArriveLine t b memory v n r
-  arrive_none n r e q = no_source (in_force t b) (memory ++ rest) _ (λ s. ArriveTold (in_force t b) s memory v n r) b.source standing e a.search q
-
-  pub profile_none : (out : List Pair) (r : Result ℕ Refusal) → standing ≡ None → r ≡ Err NoSearch → ProfileLine t b memory v out r out
-  profile_none out r e q = (refl, no_source (in_force t b) (memory ++ rest) _ (λ s. ProfileTold (in_force t b) s memory v out r out) b.source standing e a.search (q, refl))
-
-  pub journey_none : (n : ℕ) (out : List Leg) (r : Result ℕ Refusal) → standing ≡ None → r ≡ Err NoSearch → JourneyLine t b memory v n out r out
-  journey_none n out r e q = (refl, no_source (in_force t b) (memory ++ rest) _ (λ s. JourneyTold (in_force t b) s memory v n out r out) b.source standing e a.search (q, refl))
-
+module _ (t : Table) (b : Book) (memory rest : List Label) (slots : List (Option Notice)) (standing : Option Standing) (a : Agrees t b slots standing (memory ++ rest)) (v : ℕ) where
   module _ (x : Standing) (is : standing ≡ Some x) where
     stands : Stands (in_force t b) b.source (Some x) (memory ++ rest)
     stands = subst (λ (o : Option Standing). Stands (in_force t b) b.source o (memory ++ rest)) is a.search
 
-    pub arrive_line : (n : ℕ) (r : Result (ℕ × ℕ) Refusal) → Arrived (noticed t (found slots)) x.source.0 x.rows memory v n r
+    pub arrive_line : (n : ℕ) (r : Result Pair Refusal) → Arrived (noticed t (found slots)) x.source.0 x.rows memory v n r
         → (Rows (noticed t (found slots)) x.source.0 memory → x.rows ≡ ranks (noticed t (found slots)) x.source.0 → ArriveTold (noticed t (found slots)) x.source.0 memory v n r)
         → ArriveLine t b memory v n r
     arrive_line n r p q =
@@ -134,11 +120,3 @@ module _ (t : Table) (b : Book) (memory rest : List Label) (slots : List Notice)
       journey_length (noticed t (found slots)) x.source.0 x.rows v memory n out out' r p,
       line t b memory rest slots x (λ u s m. Journeyed u s m memory v n out r out') (λ u s. JourneyTold u s memory v n out r out') p q (λ u s short h. journey_short u s v memory short n out out' r h) b.source _ a.says stands,
     )
-
--- ---- the answer over what a planner holds: its standing search is known, or known to be none
-
-pub by_some : {X : Type 0} (o : Option X) (N : Type 0) (Q : X → Type 0) (x : X) → o ≡ Some x → Q x → MatchOption o N Q
-by_some o N Q x e q = subst (λ (y : Option _). MatchOption y N Q) (sym e) q
-
-pub by_none : {X : Type 0} (o : Option X) (N : Type 0) (Q : X → Type 0) → o ≡ None → N → MatchOption o N Q
-by_none o N Q e q = subst (λ (y : Option _). MatchOption y N Q) (sym e) q

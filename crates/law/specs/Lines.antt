@@ -20,7 +20,7 @@ answered None = Ok tt
 answered (Some e) = Err e
 
 -- report x of train z
-abbrev pub ReportLine : Table → Book → ℕ → Report → Result (Unit {0}) Refusal → Type 0
+abbrev pub ReportLine : Table → Book → ℕ → Option Report → Result (Unit {0}) Refusal → Type 0
 ReportLine t b z x r = r ≡ answered (report_refusal t.trains (standing_notices t b) (b.says z) z x)
 
 abbrev pub LiftLine : Table → Book → ℕ → Result (Unit {0}) Refusal → Type 0
@@ -34,7 +34,7 @@ SearchLine t b s board labels memory r memory' =
     (λ e. (search_refusal (in_force t b) s board labels (length memory) ≡ Some e) × (memory' ≡ memory))
 
 -- the questions to v at minute n: of all itineraries from the book's source; with no source, refused
-abbrev pub ArriveLine : Table → Book → List Label → (v n : ℕ) → Result (ℕ × ℕ) Refusal → Type 0
+abbrev pub ArriveLine : Table → Book → List Label → (v n : ℕ) → Result Pair Refusal → Type 0
 ArriveLine t b memory v n r = MatchOption b.source (r ≡ Err NoSearch) (λ s. ArriveTold (in_force t b) s memory v n r)
 
 -- an output keeps its length

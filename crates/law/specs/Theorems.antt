@@ -4,7 +4,6 @@ use Rattle.refusals.specs.declared.refusal.Refusal.TheVariants.{ForeignRows}
 use Rattle.timetable.specs.declared.label.Label.{Label}
 use Rattle.timetable.specs.declared.leg.Leg.{Leg}
 use Rattle.timetable.specs.declared.pair.Pair.{Pair}
-use Rattle.timetable.specs.declared.report.Report.TheVariants.{Nothing}
 use Rattle.timetable.specs.Table.{Table}
 use Rattle.timetable.specs.Labels.{ranks}
 use Rattle.timetable.specs.Rows.{Rows, width}
@@ -17,11 +16,11 @@ use Rattle.law.specs.Agreement.{Agrees}
 
 -- slots in which no notice stands agree with the fresh book, whatever the memory holds
 abbrev pub FreshAgrees : Type 0
-FreshAgrees = (t : Table) (slots : List Notice) (memory : List Label) → ((z : ℕ) → found slots z ≡ Nothing) → used slots ≡ 0 → Agrees t fresh slots None memory
+FreshAgrees = (t : Table) (slots : List (Option Notice)) (memory : List Label) → ((z : ℕ) → found slots z ≡ None) → used slots ≡ 0 → Agrees t fresh slots None memory
 
 -- two books that agree with one planner and memory say the same
 abbrev pub OneBook : Type 0
-OneBook = (t : Table) (b b' : Book) (slots : List Notice) (standing : Option Standing) (memory : List Label) → Agrees t b slots standing memory → Agrees t b' slots standing memory
+OneBook = (t : Table) (b b' : Book) (slots : List (Option Notice)) (standing : Option Standing) (memory : List Label) → Agrees t b slots standing memory → Agrees t b' slots standing memory
     → ((z : ℕ) → b.says z ≡ b'.says z) × (b.source ≡ b'.source)
 
 -- the front of a memory has the memory's rows, where it is long enough for them; and the memory has those of its front

@@ -1,11 +1,8 @@
--- One line more.
-use Rattle.std.proofs.Common.{◌≡◌, ℕ, ◌+◌, true, cond, List, [], ◌++◌, ap, ◌∙◌, ap₂, add-one}
+-- The lines of a connection.
+use Rattle.std.proofs.Common.{◌≡◌, ℕ, true, cond, List, [], ◌++◌, ap, ◌∙◌, ap₂}
 use Rattle.timetable.specs.Table.{Table, at}
 use Rattle.timetable.specs.declared.connection.Connection.{Connection}
-use Rattle.listing.specs.Text.{train_line, connection_line, begins_train, train_lines, lines_below}
-
-pub one_more : (f : ℕ → List ℕ) (n : ℕ) (a b l x : List ℕ) → a ≡ lines_below f n → b ≡ a ++ x → x ≡ l → l ≡ f n → b ≡ lines_below f (n + 1)
-one_more f n a b l x inv put str line = rw add-one (put ∙ ap₂ ◌++◌ inv (str ∙ line))
+use Rattle.listing.specs.Text.{train_line, connection_line, begins_train, train_lines}
 
 -- the first connection of a train, below the train's line
 pub below_train : (t : Table) (n p : ℕ) (k : Connection) (a b l x : List ℕ) → k ≡ at t n → p ≡ t.period → true ≡ begins_train t n → a ≡ train_line k.train.0 → l ≡ connection_line p n k → x ≡ l → b ≡ a ++ x → b ≡ train_lines t n

@@ -1,7 +1,9 @@
 -- The text of a timetable's listing.
 use Rattle.std.specs.Prelude.{ℕ, zero, suc, ◌+◌, ◌-◌, ◌/◌, ◌%◌, Bool, true, false, cond, not, ◌||◌, List, [], ◌∷◌, ◌++◌, codes, decimal, ◌==◌}
 use Rattle.timetable.specs.Table.{Table, at, stations, connections, transfer}
+use Rattle.timetable.specs.Counted.{counts_of}
 use Rattle.timetable.specs.declared.connection.Connection.{Connection}
+use Rattle.timetable.specs.declared.counts.Counts.{Counts}
 
 -- a minute of a period: in one of 1,440 minutes as H:MM, with the number of days that have passed, if any
 abbrev pub moment_text : ℕ → ℕ → List ℕ
@@ -10,11 +12,11 @@ moment_text period n =
     (decimal (n % 1440 / 60) ++ (codes ":" ++ (decimal (n % 60 / 10) ++ (decimal (n % 10) ++ cond (n / 1440 == 0) [] (codes " +" ++ decimal (n / 1440))))))
     (decimal n)
 
-abbrev pub counts_text : ℕ → ℕ → ℕ → ℕ → List ℕ
-counts_text period stations trains connections = codes "period " ++ (decimal period ++ (codes " min, " ++ (decimal stations ++ (codes " stations, " ++ (decimal trains ++ (codes " trains, " ++ (decimal connections ++ codes " connections")))))))
+abbrev pub counts_text : Counts → List ℕ
+counts_text n = codes "period " ++ (decimal n.period ++ (codes " min, " ++ (decimal n.stations ++ (codes " stations, " ++ (decimal n.trains ++ (codes " trains, " ++ (decimal n.connections ++ codes " connections")))))))
 
 abbrev pub counts_line : Table → List ℕ
-counts_line t = counts_text t.period (stations t) t.trains (connections t)
+counts_line t = counts_text (counts_of t)
 
 abbrev pub station_line : ℕ → ℕ → List ℕ
 station_line v minutes = codes "station " ++ (decimal v ++ (codes ": transfer time " ++ (decimal minutes ++ codes " min\n")))

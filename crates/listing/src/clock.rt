@@ -21,12 +21,11 @@ impl fmt::Display for Moment {
         }
         let day = minute / 1440;
         let hour = minute % 1440 / 60;
-        let ten = minute % 60 / 10;
-        let one = minute % 10;
+        let minute = minute % 60;
         if day == 0 {
-            write!(f, "{hour}:{ten}{one}")
+            write!(f, "{hour}:{minute:02}")
         } else {
-            write!(f, "{hour}:{ten}{one} +{day}")
+            write!(f, "{hour}:{minute:02} +{day}")
         }
     }
 }

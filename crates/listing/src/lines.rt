@@ -1,34 +1,28 @@
 //! The lines of a timetable's listing.
 
-ghost use Rattle.std.specs.Prelude.{◌≡◌, IfOk, string_bytes};
-ghost use Rattle.timetable.specs.Table.{stations, connections};
-ghost use Rattle.listing.specs.Text.{counts_text, counts_line, ride_text, note, station_line, station_lines, train_line, connection_line, begins_train, train_lines, lines_below, listing_text};
+ghost use Rattle.std.specs.Prelude.{◌≡◌, ℕ, ◌<◌, List, IfOk, string_bytes};
+ghost use Rattle.listing.specs.Text.{counts_line, ride_text, note, station_line, station_lines, train_line, connection_line, begins_train, train_lines, lines_below, listing_text};
 
 use crate::clock::Moment;
 use std::alloc::{AllocError, Global};
-use timetable::{Connection, ConnectionNo, Station, Timetable, connection_at, transfer_at};
-
-/// The period and the counts, from their numbers.
-fn counts_text(
-    heap: Global,
-    period: u16,
-    stations: u16,
-    trains: u16,
-    connections: u16,
-) -> Result<String, AllocError>
-    ensures { IfOk result (λ s. string_bytes s ≡ counts_text period stations trains connections) }
-{
-    format!(in heap;
-        "period {period} min, {stations} stations, {trains} trains, {connections} connections"
-    )
-}
+use timetable::{Connection, ConnectionNo, Counts, Station, Timetable, connection_at, transfer_at};
 
 /// The period and the counts, in one line with no line's end.
 pub fn counts<T: Timetable>(heap: Global, t: &T) -> Result<String, AllocError>
     ensures { IfOk result (λ s. string_bytes s ≡ counts_line (T.Means.meaning t.now)) }
 {
-    counts_text(heap, t.period(), t.stations(), t.trains(), t.connections())
+    let Counts {
+        period,
+        stations,
+        trains,
+        connections,
+    } = Counts::of(t);
+    format!(in heap;
+        "period {period} min, {stations} stations, {trains} trains, {connections} connections"
+    )
 }
+
+// The lines are texts and not types with `Display`: `format!` proves them at once, and they are put one after another.
 
 /// A station with its transfer time.
 fn station_text(heap: Global, station: u16, minutes: u16) -> Result<String, AllocError>
@@ -98,7 +92,7 @@ fn begins_train<T: Timetable>(t: &T, number: u16) -> bool
     }
     let before = connection_at(t, ConnectionNo(number - 1));
     let c = connection_at(t, ConnectionNo(number));
-    before.train.0 != c.train.0
+    before.train != c.train
 }
 
 /// The line of a connection, below that of its train if it is the first.
@@ -115,28 +109,18 @@ fn connection_lines<T: Timetable>(heap: Global, t: &T, number: u16) -> Result<St
     Ok(text)
 }
 
-/// The stations, one after another.
-fn station_part<T: Timetable>(heap: Global, t: &T) -> Result<String, AllocError>
-    ensures { IfOk result (λ s. string_bytes s ≡ lines_below (station_lines (T.Means.meaning t.now)) (stations (T.Means.meaning t.now))) }
+/// The lines of the numbers below n, one after another.
+fn lines_below<F: Fn(u16) -> Result<String, AllocError>>(
+    heap: Global,
+    n: u16,
+    lines: F,
+) -> Result<String, AllocError>
+    requires { F.IsAlwaysCallable lines }
+    ensures { (f : ℕ → List ℕ) → ((i : ℕ) (r : _) → i < n → F.post lines i r → IfOk r (λ s. string_bytes s ≡ f i)) → IfOk result (λ s. string_bytes s ≡ lines_below f n) }
 {
     let mut text = String::new(heap);
-    let stations = t.stations();
-    for v in 0..stations {
-        let line = station_of(heap, t, v)?;
-        text.push_str(line.as_str())?;
-    }
-    Ok(text)
-}
-
-/// The trains with their connections, one after another.
-fn train_part<T: Timetable>(heap: Global, t: &T) -> Result<String, AllocError>
-    ensures { IfOk result (λ s. string_bytes s ≡ lines_below (train_lines (T.Means.meaning t.now)) (connections (T.Means.meaning t.now))) }
-{
-    let mut text = String::new(heap);
-    let connections = t.connections();
-    for c in 0..connections {
-        let line = connection_lines(heap, t, c)?;
-        text.push_str(line.as_str())?;
+    for i in 0..n {
+        text.push_str(lines(i)?.as_str())?;
     }
     Ok(text)
 }
@@ -145,8 +129,14 @@ fn train_part<T: Timetable>(heap: Global, t: &T) -> Result<String, AllocError>
 pub fn listing<T: Timetable>(heap: Global, t: &T) -> Result<String, AllocError>
     ensures { IfOk result (λ s. string_bytes s ≡ listing_text (T.Means.meaning t.now)) }
 {
-    let mut text = station_part(heap, t)?;
-    let trains = train_part(heap, t)?;
+    let station = |v| -> Result<String, AllocError>
+        ensures { IfOk result (λ s. string_bytes s ≡ station_lines (T.Means.meaning t.entry.now) v) }
+    { station_of(heap, t, v) };
+    let connection = |c| -> Result<String, AllocError>
+        ensures { IfOk result (λ s. string_bytes s ≡ train_lines (T.Means.meaning t.entry.now) c) }
+    { connection_lines(heap, t, c) };
+    let mut text = lines_below(heap, t.stations(), station)?;
+    let trains = lines_below(heap, t.connections(), connection)?;
     text.push_str(trains.as_str())?;
     Ok(text)
 }

@@ -1,16 +1,17 @@
-ghost use Rattle.std.specs.Prelude.{◌≡◌, ℕ, ◌<◌, ◌≤◌, true, false, ◌≢◌, length, get_or, MatchOption, MatchResult, slice_index_or, slice_set};
+ghost use Rattle.std.specs.Prelude.{◌≡◌, ℕ, ◌<◌, ◌≤◌, length, None, IsSome, MatchOption, MatchResult, slice_index_or};
 ghost use Rattle.refusals.specs.declared.refusal.Refusal.TheVariants.{FullNotices, NothingToLift};
-ghost use Rattle.timetable.specs.declared.report.Report.TheVariants.{Nothing};
-ghost use Rattle.notices.specs.Slots.{stands, names, found, used, empty, OneEach, Entered};
+ghost use Rattle.notices.specs.Slots.{said, found, used, OneEach, IsSlotFor, Entered};
 
 use crate::notice::Notice;
 use refusals::Refusal;
 use timetable::{Report, Train};
 
-/// 32 notices, at most one for a train.
+/// 32 slots, each with a notice or free. No two notices are for one train.
+// Nothing is allocated, so the notices stand in fixed slots and not in a map. Contracts see the slots through `found` and
+// `used`: a model would hold these two, and no clause would be shorter.
 #[derive(Drop)]
 pub struct NoticeTable {
-    slots: [Notice; 32],
+    slots: [Option<Notice>; 32],
     ghost apart: { OneEach slots },
     ghost all: { length slots ≡ 32 },
 }
@@ -18,22 +19,18 @@ pub struct NoticeTable {
 impl NoticeTable {
     /// A table in which no notice stands.
     pub fn new() -> NoticeTable
-        ensures { (((z : ℕ) → found result.slots z ≡ Nothing)) × (used result.slots ≡ 0) }
+        ensures { (((z : ℕ) → found result.slots z ≡ None)) × (used result.slots ≡ 0) }
     {
-        NoticeTable {
-            slots: [Notice {
-                train: Train(0),
-                report: Report::Nothing,
-            }; 32],
-        }
+        NoticeTable { slots: [None; 32] }
     }
 
     /// The slot whose notice is for this train.
     fn slot_of(&self, train: Train) -> Option<usize>
-        ensures { MatchOption result ((j : ℕ) → j < 32 → names (slice_index_or self.now.slots j empty) train.0 ≡ false) (λ i. (i < 32) × (names (slice_index_or self.now.slots i empty) train.0 ≡ true)) }
+        ensures { MatchOption result (found self.now.slots train.0 ≡ None) (λ i. IsSlotFor self.now.slots train.0 i × (found self.now.slots train.0 ≡ said (slice_index_or self.now.slots i None)) × IsSome (found self.now.slots train.0)) }
     {
-        for i in 0..32 {
-            if self.slots[i].names(train) {
+        // By decision a `for` over the slots: it ends at the train's own, and its invariant says that no slot before it is.
+        for (i, slot) in self.slots.iter().enumerate() {
+            if slot.is_some_and(|notice| notice.names(train)) {
                 return Some(i);
             }
         }
@@ -42,65 +39,51 @@ impl NoticeTable {
 
     /// A slot in which no notice stands.
     fn free_slot(&self) -> Option<usize>
-        ensures { MatchOption result ((j : ℕ) → j < 32 → stands (get_or self.now.slots j empty).report ≡ true) (λ i. (i < 32) × (stands (get_or self.now.slots i empty).report ≡ false)) }
+        ensures { MatchOption result ((j : ℕ) → j < 32 → IsSome (slice_index_or self.now.slots j None)) (λ i. (i < 32) × (slice_index_or self.now.slots i None ≡ None)) }
     {
-        for i in 0..32 {
-            if !self.slots[i].stands() {
-                return Some(i);
-            }
-        }
-        None
+        self.slots.iter().position(|slot| slot.is_none())
     }
 
-    /// Replaces the notice of one slot.
-    fn replace(&mut self, i: usize, notice: Notice)
-        requires { (i < 32) × (((j : ℕ) → j ≢ i → names (slice_index_or self.old.slots j empty) notice.train.0 ≡ false)) }
-        ensures { self.new.slots ≡ slice_set self.old.slots i notice }
+    /// The slot for a notice of this train: the one that it has, or a free one.
+    fn slot_for(&self, train: Train) -> Option<usize>
+        ensures { MatchOption result ((32 ≤ used self.now.slots) × (found self.now.slots train.0 ≡ None)) (λ i. IsSlotFor self.now.slots train.0 i × ((32 ≤ used self.now.slots) → IsSome (found self.now.slots train.0))) }
     {
-        self.slots[i] = notice;
+        self.slot_of(train).or_else(|| self.free_slot())
+    }
+
+    /// Replaces what stands in a slot for this train.
+    fn replace(&mut self, i: usize, train: Train, report: Option<Report>)
+        requires { IsSlotFor self.old.slots train.0 i }
+        ensures { Entered self.old.slots self.new.slots train.0 report }
+    {
+        self.slots[i] = report.map(|report| Notice { train, report });
     }
 
     /// What is reported of a train.
-    pub fn says(&self, train: Train) -> Report
+    pub fn says(&self, train: Train) -> Option<Report>
         ensures { result ≡ found self.now.slots train.0 }
     {
-        match self.slot_of(train) {
-            Some(i) => self.slots[i].report,
-            None => Report::Nothing,
-        }
+        let i = self.slot_of(train)?;
+        self.slots[i].map(|notice| notice.report)
     }
 
     /// Enters a report over what stood for the train. Refused: `FullNotices` where 32 notices stand, none of them for this
     /// train.
-    pub fn enter(&mut self, train: Train, report: Report) -> Result<(), Refusal>
-        ensures { MatchResult result (λ _. Entered self.old.slots self.new.slots train.0 report × ((32 ≤ used self.old.slots) → stands (found self.old.slots train.0) ≡ true)) (λ e. (e ≡ FullNotices train.0) × (32 ≤ used self.old.slots) × (stands (found self.old.slots train.0) ≡ false) × (self.new ≡ self.old)) }
+    // The report is an `Option`, since nothing may be entered, too, and then no notice stands for the train.
+    pub fn enter(&mut self, train: Train, report: Option<Report>) -> Result<(), Refusal>
+        ensures { MatchResult result (λ _. Entered self.old.slots self.new.slots train.0 report × ((32 ≤ used self.old.slots) → IsSome (found self.old.slots train.0))) (λ e. (e ≡ FullNotices train.0) × (32 ≤ used self.old.slots) × (found self.old.slots train.0 ≡ None) × (self.new ≡ self.old)) }
     {
-        let notice = Notice { train, report };
-        if let Some(i) = self.slot_of(train) {
-            self.replace(i, notice);
-            return Ok(());
-        }
-        let Some(i) = self.free_slot() else {
-            return Err(Refusal::FullNotices(train.0));
-        };
-        self.replace(i, notice);
+        let i = self.slot_for(train).ok_or(Refusal::FullNotices(train.0))?;
+        self.replace(i, train, report);
         Ok(())
     }
 
     /// Takes the notice for a train away. Refused: `NothingToLift` where none stands.
     pub fn lift(&mut self, train: Train) -> Result<(), Refusal>
-        ensures { MatchResult result (λ _. Entered self.old.slots self.new.slots train.0 Nothing × (stands (found self.old.slots train.0) ≡ true)) (λ e. (e ≡ NothingToLift train.0) × (stands (found self.old.slots train.0) ≡ false) × (self.new ≡ self.old)) }
+        ensures { MatchResult result (λ _. Entered self.old.slots self.new.slots train.0 None × IsSome (found self.old.slots train.0)) (λ e. (e ≡ NothingToLift train.0) × (found self.old.slots train.0 ≡ None) × (self.new ≡ self.old)) }
     {
-        let Some(i) = self.slot_of(train) else {
-            return Err(Refusal::NothingToLift(train.0));
-        };
-        self.replace(
-            i,
-            Notice {
-                train,
-                report: Report::Nothing,
-            },
-        );
+        let i = self.slot_of(train).ok_or(Refusal::NothingToLift(train.0))?;
+        self.replace(i, train, None);
         Ok(())
     }
 }

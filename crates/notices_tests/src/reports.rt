@@ -2,18 +2,10 @@ use draft::Draft;
 use draft::examples::example_a;
 use image::Image;
 use notices::Notices;
-use refusals::Refusal;
+use refusals::{Refusal, refused_as as told};
 use std::process::Abort;
 use std::test::Fail;
-use timetable::{ConnectionNo, Timetable, Train};
-
-/// Number, layer and item of a refusal; zeros where there is none.
-fn told(res: Result<(), Refusal>) -> (u8, u8, usize) {
-    match res {
-        Ok(_) => (0, 0, 0),
-        Err(refusal) => (refusal.number(), refusal.layer(), refusal.item()),
-    }
-}
+use timetable::{ConnectionNo, Counts, Timetable, Train};
 
 /// Departure, ride and whether it runs.
 fn told_of<T: Timetable>(t: &T, number: u16) -> Result<(u16, u16, bool), Refusal> {
@@ -40,22 +32,24 @@ fn reports_on_a<T: Timetable>(rt: &impl Abort, t: &mut Notices<T>) -> Result<(),
     Ok(())
 }
 
+/// Notices over an image of these bytes.
+fn notices_over(bytes: &[u8]) -> Result<Notices<Image<'_>>, Refusal> {
+    Ok(Notices::new(Image::try_from(bytes)?))
+}
+
 #[test]
 fn reports_change_connections(rt: HostRuntime) -> Result<(), Fail> {
     let a = example_a(rt.alloc())?;
-    let mut image = Image::smallest();
-    image.open(a.bytes())?;
-    let mut t = Notices::new(image);
-    reports_on_a(&rt, &mut t)
+    reports_on_a(&rt, &mut notices_over(a.bytes())?)
 }
 
 fn refusals_on_a<T: Timetable>(rt: &impl Abort, t: &mut Notices<T>) -> Result<(), Fail> {
-    assert_eq!(rt; told(t.cancel(Train(5))), (21, 2, 5));
-    assert_eq!(rt; told(t.late(Train(5), 0)), (21, 2, 5));
-    assert_eq!(rt; told(t.lift(Train(5))), (21, 2, 5));
-    assert_eq!(rt; told(t.late(Train(4), 0)), (22, 2, 0));
-    assert_eq!(rt; told(t.late(Train(4), 1441)), (22, 2, 1441));
-    assert_eq!(rt; told(t.lift(Train(4))), (24, 2, 4));
+    assert_eq!(rt; told(t.cancel(Train(5))), Some((21, 2, 5)));
+    assert_eq!(rt; told(t.late(Train(5), 0)), Some((21, 2, 5)));
+    assert_eq!(rt; told(t.lift(Train(5))), Some((21, 2, 5)));
+    assert_eq!(rt; told(t.late(Train(4), 0)), Some((22, 2, 0)));
+    assert_eq!(rt; told(t.late(Train(4), 1441)), Some((22, 2, 1441)));
+    assert_eq!(rt; told(t.lift(Train(4))), Some((24, 2, 4)));
     assert_eq!(rt; told_of(t, 5)?, (530, 20, true));
     Ok(())
 }
@@ -63,10 +57,7 @@ fn refusals_on_a<T: Timetable>(rt: &impl Abort, t: &mut Notices<T>) -> Result<()
 #[test]
 fn refused_reports(rt: HostRuntime) -> Result<(), Fail> {
     let a = example_a(rt.alloc())?;
-    let mut image = Image::smallest();
-    image.open(a.bytes())?;
-    let mut t = Notices::new(image);
-    refusals_on_a(&rt, &mut t)
+    refusals_on_a(&rt, &mut notices_over(a.bytes())?)
 }
 
 /// 32 notices stand; of a timetable with 34 trains.
@@ -74,29 +65,27 @@ fn fill<T: Timetable>(rt: &impl Abort, t: &mut Notices<T>) -> Result<(), Fail> {
     for train in 0..32 {
         t.cancel(Train(train))?;
     }
-    assert_eq!(rt; told(t.cancel(Train(32))), (23, 2, 32));
-    assert_eq!(rt; told(t.late(Train(33), 9)), (23, 2, 33));
-    assert_eq!(rt; told(t.late(Train(33), 0)), (22, 2, 0));
-    assert_eq!(rt; told(t.lift(Train(33))), (24, 2, 33));
+    assert_eq!(rt; told(t.cancel(Train(32))), Some((23, 2, 32)));
+    assert_eq!(rt; told(t.late(Train(33), 9)), Some((23, 2, 33)));
+    assert_eq!(rt; told(t.late(Train(33), 0)), Some((22, 2, 0)));
+    assert_eq!(rt; told(t.lift(Train(33))), Some((24, 2, 33)));
     t.late(Train(31), 9)?;
     t.lift(Train(7))?;
     t.cancel(Train(32))?;
-    assert_eq!(rt; told(t.cancel(Train(7))), (23, 2, 7));
+    assert_eq!(rt; told(t.cancel(Train(7))), Some((23, 2, 7)));
     t.lift(Train(31))?;
     t.cancel(Train(7))?;
     Ok(())
 }
 
-fn fill_over(rt: &impl Abort, bytes: &[u8]) -> Result<(), Fail> {
-    let mut image = Image::smallest();
-    image.open(bytes)?;
-    let mut t = Notices::new(image);
-    fill(rt, &mut t)
-}
-
 #[test]
 fn all_slots(rt: HostRuntime) -> Result<(), Fail> {
-    let mut draft = Draft::new(rt.alloc(), 60, 1, 34, 0)?;
-    draft.transfer(0)?;
-    fill_over(&rt, draft.bytes())
+    let counts = Counts {
+        period: 60,
+        stations: 1,
+        trains: 34,
+        connections: 0,
+    };
+    let draft = Draft::of(rt.alloc(), counts, &[0], &[])?;
+    fill(&rt, &mut notices_over(draft.bytes())?)
 }

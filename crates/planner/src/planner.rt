@@ -1,5 +1,5 @@
 ghost use Rattle.std.specs.Prelude.{◌≡◌, None};
-ghost use Rattle.law.specs.Agreement.{NewLaw};
+ghost use Rattle.planner.specs.Laws.{NewLaw};
 
 use notices::Notices;
 use questions::Standing;
@@ -21,7 +21,7 @@ impl<T: Timetable> Planner<T> {
     pub fn new(timetable: T) -> Planner<T>
         ensures below { result.notices.below ≡ timetable }
         ensures standing { result.standing ≡ None }
-        ensures law { NewLaw (T.Means.meaning timetable) result.notices.table.slots result.standing }
+        ensures law { NewLaw T.Means.meaning result }
     {
         Planner {
             notices: Notices::new(timetable),

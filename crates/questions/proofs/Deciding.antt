@@ -3,7 +3,7 @@ use Rattle.std.proofs.Common.{◌≡◌, ℕ, ◌+◌, ◌<◌, true, false, eqb
 use Rattle.std.proofs.lemmas.Bool.{cases_Bool, eqb-true, eqb-false}
 use Rattle.timetable.specs.declared.connection.Connection.{Connection}
 use Rattle.timetable.specs.Table.{Table, at, connections, transfer, ahead, stand, next_departure}
-use Rattle.timetable.specs.Labels.{places, connection_place, Gives, by_ride, by_stay, by_change}
+use Rattle.timetable.specs.Labels.{connection_place, Gives, by_ride, by_stay, by_change}
 use Rattle.questions.specs.Giving.{NoRide, NoStay, NoChange}
 
 when_equal : (a b : ℕ) (P Q : Type 0) → (a ≡ b → P) → ((a ≡ b → ⊥) → Q) → MatchBool (eqb a b) P Q
@@ -21,8 +21,8 @@ module _ (t : Table) (q n p n' c : ℕ) (x : Connection) (is : x ≡ at t c) whe
       (λ m. by_ride c h e (a ∙ ap (λ (y : Connection). y.end.0) is) (m ∙ ap (λ (y : ℕ). n + y) l))
       (λ f d i j b m. f (m ∙ ap (λ (y : ℕ). n + y) (ap (λ (y : ℕ). (at t y).ride) (let s : d ≡ c = omega arith in s) ∙ sym l)))
 
-  module _ (h : c < connections t) (e : q ≡ connection_place t c) (z : Connection) (next : z ≡ at t (c + 1)) where
-    pub stay_decided : (r s : ℕ) → p < places t → p ≡ q + 1 → z.train.0 ≡ x.train.0 → z.runs ≡ true → r ≡ x.ride → s ≡ ahead t.period (x.departure + r) z.departure → MatchBool (eqb n' (n + r + s)) (Gives t q n p n') (NoStay t q n p n')
+  module _ (e : q ≡ connection_place t c) (z : Connection) (next : z ≡ at t (c + 1)) where
+    pub stay_decided : (r s : ℕ) → c + 1 < connections t → p ≡ connection_place t (c + 1) → z.train.0 ≡ x.train.0 → z.runs ≡ true → r ≡ x.ride → s ≡ ahead t.period (x.departure + r) z.departure → MatchBool (eqb n' (n + r + s)) (Gives t q n p n') (NoStay t q n p n')
     stay_decided r s b k train runs f g =
         let ride : r ≡ (at t c).ride = f ∙ ap (λ (y : Connection). y.ride) is in
         let waits : s ≡ stand t c (c + 1) = rw (← ride, ← is, ← next) g in

@@ -1,3 +1,4 @@
+pub mod Asking
 pub mod Judging
 pub mod Finding
 pub mod Giving

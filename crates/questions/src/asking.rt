@@ -1,83 +1,78 @@
 //! What is asked, and the refusals that need no look at the rows.
 
-ghost use Rattle.std.specs.Prelude.{◌≡◌, Some, None, Option, MatchResult};
+ghost use Rattle.std.specs.Prelude.{◌≡◌, ◌<◌, length, Some, Option, MatchResult};
 ghost use Rattle.refusals.specs.declared.refusal.Refusal.{Refusal as Told};
+ghost use Rattle.timetable.specs.Table.{stations};
 ghost use Rattle.answers.specs.Promises.{rows_refusal, target_refusal, asked, asked_profile};
 ghost use Rattle.answers.specs.Rowwise.{view_of};
+ghost use Rattle.questions.specs.Asking.{Looked};
 
+use crate::rows::LabelRows;
 use crate::standing::Standing;
 use answers::View;
-use refusals::Refusal;
-use timetable::{Means, Station, Timetable};
+use refusals::{Refusal, enough};
+use timetable::{Label, Means, Station, Timetable, places};
 
-/// The rows of a standing search, looked at for a target.
-fn view<T: Timetable>(t: &T, standing: Standing, target: Station) -> View
-    ensures { result ≡ view_of (T.Means.meaning t.now) standing.rows target.0 }
-{
-    View {
-        rows: standing.rows as usize,
-        width: usize::from(t.stations()) + usize::from(t.connections()) + 1,
-        target: usize::from(target.0),
-        period: u32::from(t.period()),
-    }
+/// A station that is asked for, and the search that tells: its timetable, its rows and the memory that they are in.
+// The public calls take these one by one, since they are the calls that the engine offers: `arrive(t, standing, memory, target,
+// minute)` and so on.
+#[derive_where(Clone, Copy)]
+pub struct Question<'a, T> {
+    pub timetable: &'a T,
+    pub standing: Standing,
+    pub memory: &'a [Label],
+    pub target: Station,
 }
 
-/// Whether the target is a station, and another than the source.
-fn check_target<T: Timetable>(t: &T, source: Station, target: Station) -> Result<(), Refusal>
-    ensures { MatchResult result (λ _. (rest : Option Told) → target_refusal (T.Means.meaning t.now) source.0 target.0 rest ≡ rest) (λ e. (rest : Option Told) → target_refusal (T.Means.meaning t.now) source.0 target.0 rest ≡ Some e) }
-{
-    if t.stations() <= target.0 {
-        return Err(Refusal::NoTarget(target.0));
+impl<'a, T: Timetable> Question<'a, T> {
+    /// Whether the target is a station, and another than the source.
+    fn check_target(&self) -> Result<(), Refusal>
+        ensures { MatchResult result (λ _. (self.now.target.0 < stations (T.Means.meaning self.now.timetable.now)) × ((rest : Option Told) → target_refusal (T.Means.meaning self.now.timetable.now) self.now.standing.source.0 self.now.target.0 rest ≡ rest)) (λ e. (rest : Option Told) → target_refusal (T.Means.meaning self.now.timetable.now) self.now.standing.source.0 self.now.target.0 rest ≡ Some e) }
+    {
+        if self.timetable.stations() <= self.target.0 {
+            return Err(Refusal::NoTarget(self.target.0));
+        }
+        if self.target == self.standing.source {
+            return Err(Refusal::TargetIsSource(self.target.0));
+        }
+        Ok(())
     }
-    if target.0 == source.0 {
-        return Err(Refusal::TargetIsSource(target.0));
-    }
-    Ok(())
-}
 
-/// Whether a memory of so many entries has room for the rows.
-fn see<T: Timetable>(
-    t: &T,
-    standing: Standing,
-    target: Station,
-    entries: usize,
-) -> Result<View, Refusal>
-    ensures { MatchResult result (λ w. (rows_refusal (T.Means.meaning t.now) standing.rows entries ≡ None) × (w ≡ view_of (T.Means.meaning t.now) standing.rows target.0)) (λ e. rows_refusal (T.Means.meaning t.now) standing.rows entries ≡ Some e) }
-{
-    let view = view(t, standing, target);
-    let needed = view.rows * view.width;
-    if entries < needed {
-        return Err(Refusal::ShortRows(needed));
+    /// The rows, looked at for the target, if the memory is long enough to hold them.
+    fn rows(&self) -> Result<LabelRows<'a>, Refusal>
+        requires { self.now.target.0 < stations (T.Means.meaning self.now.timetable.now) }
+        ensures { Looked (rows_refusal (T.Means.meaning self.now.timetable.now) self.now.standing.rows (length self.now.memory.now)) (view_of (T.Means.meaning self.now.timetable.now) self.now.standing.rows self.now.target.0) self.now.memory.now result }
+    {
+        let view = View {
+            rows: self.standing.rows as usize,
+            width: places(self.timetable) + 1,
+            target: usize::from(self.target.0),
+            period: u32::from(self.timetable.period()),
+        };
+        let needed = view.rows * view.width;
+        enough(self.memory.len(), needed, Refusal::ShortRows(needed))?;
+        Ok(LabelRows {
+            view,
+            memory: self.memory,
+        })
     }
-    Ok(view)
-}
 
-/// What arrive and journey ask.
-pub fn ask<T: Timetable>(
-    t: &T,
-    standing: Standing,
-    target: Station,
-    minute: u32,
-    entries: usize,
-) -> Result<View, Refusal>
-    ensures { MatchResult result (λ w. (asked (T.Means.meaning t.now) standing.source.0 standing.rows target.0 minute entries ≡ None) × (w ≡ view_of (T.Means.meaning t.now) standing.rows target.0)) (λ e. asked (T.Means.meaning t.now) standing.source.0 standing.rows target.0 minute entries ≡ Some e) }
-{
-    check_target(t, standing.source, target)?;
-    if u32::from(t.period()) <= minute {
-        return Err(Refusal::MinuteLimit(minute));
+    /// The rows for arrive and journey, at a minute.
+    pub fn ask(&self, minute: u32) -> Result<LabelRows<'a>, Refusal>
+        ensures { Looked (asked (T.Means.meaning self.now.timetable.now) self.now.standing.source.0 self.now.standing.rows self.now.target.0 minute (length self.now.memory.now)) (view_of (T.Means.meaning self.now.timetable.now) self.now.standing.rows self.now.target.0) self.now.memory.now result }
+    {
+        self.check_target()?;
+        if u32::from(self.timetable.period()) <= minute {
+            return Err(Refusal::MinuteLimit(minute));
+        }
+        self.rows()
     }
-    see(t, standing, target, entries)
-}
 
-/// What profile asks.
-pub fn ask_profile<T: Timetable>(
-    t: &T,
-    standing: Standing,
-    target: Station,
-    entries: usize,
-) -> Result<View, Refusal>
-    ensures { MatchResult result (λ w. (asked_profile (T.Means.meaning t.now) standing.source.0 standing.rows target.0 entries ≡ None) × (w ≡ view_of (T.Means.meaning t.now) standing.rows target.0)) (λ e. asked_profile (T.Means.meaning t.now) standing.source.0 standing.rows target.0 entries ≡ Some e) }
-{
-    check_target(t, standing.source, target)?;
-    see(t, standing, target, entries)
+    /// The rows for profile.
+    pub fn ask_profile(&self) -> Result<LabelRows<'a>, Refusal>
+        ensures { Looked (asked_profile (T.Means.meaning self.now.timetable.now) self.now.standing.source.0 self.now.standing.rows self.now.target.0 (length self.now.memory.now)) (view_of (T.Means.meaning self.now.timetable.now) self.now.standing.rows self.now.target.0) self.now.memory.now result }
+    {
+        self.check_target()?;
+        self.rows()
+    }
 }

@@ -1,36 +1,41 @@
 //! The row of the pair that arrive answers.
 
-ghost use Rattle.questions.specs.Finding.{Sought};
+ghost use Rattle.std.specs.Prelude.{◌≡◌, ◌*◌};
 
-use crate::asking::ask;
-use crate::choosing::{Hit, first_pair};
-use crate::judging::check_rows;
-use crate::standing::Standing;
-use answers::View;
+use crate::asking::Question;
+use crate::choosing::Hit;
+use crate::rows::LabelRows;
 use refusals::Refusal;
-use timetable::{Label, Means, Station, Timetable};
+use timetable::{Means, Timetable};
 
 /// What was looked at, and the row that was found.
 #[derive(Clone, Copy)]
-pub struct Found {
-    pub view: View,
+pub struct Found<'m> {
+    pub rows: LabelRows<'m>,
     pub hit: Hit,
 }
 
-/// Checks all that is asked, and finds the row of the first unbeaten pair that departs at the minute or later.
-pub fn find<T: Timetable>(
-    t: &T,
-    standing: Standing,
-    memory: &[Label],
-    target: Station,
-    minute: u32,
-) -> Result<Found, Refusal>
-    ensures { Sought (T.Means.meaning t.now) standing.source.0 standing.rows memory.now target.0 minute result }
-{
-    let view = ask(t, standing, target, minute, memory.len())?;
-    check_rows(view, memory)?;
-    match first_pair(view, memory, minute) {
-        Some(hit) => Ok(Found { view, hit }),
-        None => Err(Refusal::Unreachable(target.0)),
+impl Found<'_> {
+    /// By how many minutes the pair is moved on.
+    pub fn later(&self) -> u32
+        ensures { result ≡ self.now.hit.periods * self.now.rows.view.period }
+    {
+        self.hit.periods * self.rows.view.period
+    }
+}
+
+impl<'a, T: Timetable> Question<'a, T> {
+    ghost use Rattle.questions.specs.Finding.{Sought};
+
+    /// Checks all that is asked, and finds the row of the first unbeaten pair that departs at the minute or later.
+    pub fn find(&self, minute: u32) -> Result<Found<'a>, Refusal>
+        ensures { Sought (T.Means.meaning self.now.timetable.now) self.now.standing.source.0 self.now.standing.rows self.now.memory.now self.now.target.0 minute result }
+    {
+        let rows = self.ask(minute)?;
+        rows.check()?;
+        let hit = rows
+            .first_pair(minute)
+            .ok_or(Refusal::Unreachable(self.target.0))?;
+        Ok(Found { rows, hit })
     }
 }

@@ -1,94 +1,95 @@
 //! Whether one label gives another.
 
-ghost use Rattle.std.specs.Prelude.{◌≡◌, ◌+◌, ◌<◌, ◌≤◌, MatchBool, MatchOption};
-ghost use Rattle.timetable.specs.Table.{connections, stations};
-ghost use Rattle.timetable.specs.Labels.{Gives, connection_place, places};
+ghost use Rattle.std.specs.Prelude.{◌≡◌, ℕ, ◌<◌, ◌≤◌, MatchBool, MatchOption};
+ghost use Rattle.timetable.specs.Table.{connections};
+ghost use Rattle.timetable.specs.Labels.{Gives, connection_place};
 ghost use Rattle.questions.specs.Giving.{NoRide, NoStay, NoChange};
 
-use timetable::{ConnectionNo, Means, Station, Timetable, connection_at, transfer_at, wait};
+use timetable::{ConnectionNo, Means, Timetable, connection_at, transfer_at, wait};
 
 /// A place with its minute.
-#[derive(Clone, Copy)]
+#[derive(Clone, Copy, PartialEq, Eq)]
 pub struct Stop {
     pub place: usize,
     pub minute: u32,
 }
 
-/// The connection of a place, unless it is a station.
+/// The connection of a place, if it is a connection's.
 pub fn connection_of<T: Timetable>(t: &T, place: usize) -> Option<ConnectionNo>
-    requires { place < places (T.Means.meaning t.now) }
-    ensures { MatchOption result (place < stations (T.Means.meaning t.now)) (λ c. (c.0 < connections (T.Means.meaning t.now)) × (place ≡ connection_place (T.Means.meaning t.now) c.0)) }
+    ensures { MatchOption result ((c : ℕ) → c < connections (T.Means.meaning t.now) → place ≡ connection_place (T.Means.meaning t.now) c → ⊥) (λ c. (c.0 < connections (T.Means.meaning t.now)) × (place ≡ connection_place (T.Means.meaning t.now) c.0)) }
 {
-    let stations = usize::from(t.stations());
-    if place < stations {
-        return None;
-    }
-    Some(ConnectionNo((place - stations) as u16))
+    let number = place.checked_sub(usize::from(t.stations()))?;
+    let number = u16::try_from(number).ok()?;
+    (number < t.connections()).then_some(ConnectionNo(number))
 }
 
-/// Whether the ride of the connection at `from` arrives at `to`.
-fn rides<T: Timetable>(t: &T, from: Stop, to: Stop) -> bool
-    requires place { from.place < places (T.Means.meaning t.now) }
-    requires minute { from.minute ≤ 400000000 }
-    ensures { MatchBool result (Gives (T.Means.meaning t.now) from.place from.minute to.place to.minute) (NoRide (T.Means.meaning t.now) from.place from.minute to.place to.minute) }
-{
-    let Some(number) = connection_of(t, from.place) else {
-        return false;
-    };
-    let connection = connection_at(t, number);
-    to.place == usize::from(connection.end.0)
-        && to.minute == from.minute + u32::from(connection.ride)
+/// Two places with their minutes, the first no later than the second.
+#[derive(Clone, Copy)]
+struct Stops {
+    from: Stop,
+    to: Stop,
+    ghost in_order: { from.minute ≤ to.minute },
+    ghost small: { to.minute ≤ 400000000 },
 }
 
-/// Whether the train of the connection at `from` stands and departs as `to`.
-fn stays<T: Timetable>(t: &T, from: Stop, to: Stop) -> bool
-    requires from { from.place < places (T.Means.meaning t.now) }
-    requires to { to.place < places (T.Means.meaning t.now) }
-    requires minute { from.minute ≤ 400000000 }
-    ensures { MatchBool result (Gives (T.Means.meaning t.now) from.place from.minute to.place to.minute) (NoStay (T.Means.meaning t.now) from.place from.minute to.place to.minute) }
-{
-    let Some(number) = connection_of(t, from.place) else {
-        return false;
-    };
-    if to.place != from.place + 1 {
-        return false;
+impl Stops {
+    /// Whether the ride of the connection at `from` arrives at `to`.
+    fn rides<T: Timetable>(&self, t: &T) -> bool
+        ensures { MatchBool result (Gives (T.Means.meaning t.now) self.now.from.place self.now.from.minute self.now.to.place self.now.to.minute) (NoRide (T.Means.meaning t.now) self.now.from.place self.now.from.minute self.now.to.place self.now.to.minute) }
+    {
+        let Some(number) = connection_of(t, self.from.place) else {
+            return false;
+        };
+        let connection = connection_at(t, number);
+        self.to.place == usize::from(connection.end.0)
+            && self.to.minute == self.from.minute + u32::from(connection.ride)
     }
-    let connection = connection_at(t, number);
-    let next = connection_at(t, ConnectionNo(number.0 + 1));
-    if next.train.0 != connection.train.0 || !next.runs {
-        return false;
-    }
-    let ride = u32::from(connection.ride);
-    let stand = wait(t, u32::from(connection.departure) + ride, next.departure);
-    to.minute == from.minute + ride + stand
-}
 
-/// Whether one who is at the station `from` and changes departs as `to`.
-fn changes<T: Timetable>(t: &T, from: Stop, to: Stop) -> bool
-    requires place { to.place < places (T.Means.meaning t.now) }
-    requires minute { from.minute ≤ 400000000 }
-    ensures { MatchBool result (Gives (T.Means.meaning t.now) from.place from.minute to.place to.minute) (NoChange (T.Means.meaning t.now) from.place from.minute to.place to.minute) }
-{
-    let Some(number) = connection_of(t, to.place) else {
-        return false;
-    };
-    let connection = connection_at(t, number);
-    if from.place != usize::from(connection.start.0) || !connection.runs {
-        return false;
+    /// Whether the train of the connection at `from` stands and departs as `to`.
+    fn stays<T: Timetable>(&self, t: &T) -> bool
+        ensures { MatchBool result (Gives (T.Means.meaning t.now) self.now.from.place self.now.from.minute self.now.to.place self.now.to.minute) (NoStay (T.Means.meaning t.now) self.now.from.place self.now.from.minute self.now.to.place self.now.to.minute) }
+    {
+        let Some(number) = connection_of(t, self.from.place) else {
+            return false;
+        };
+        let Some(next_number) = connection_of(t, self.to.place) else {
+            return false;
+        };
+        let connection = connection_at(t, number);
+        let next = connection_at(t, next_number);
+        if next_number.0 != number.0 + 1 || next.train != connection.train || !next.runs {
+            return false;
+        }
+        let ride = u32::from(connection.ride);
+        let stand = wait(t, u32::from(connection.departure) + ride, next.departure);
+        self.to.minute == self.from.minute + ride + stand
     }
-    let ready = from.minute + u32::from(transfer_at(t, connection.start));
-    to.minute == ready + wait(t, ready, connection.departure)
+
+    /// Whether one who is at the station `from` and changes departs as `to`.
+    fn changes<T: Timetable>(&self, t: &T) -> bool
+        ensures { MatchBool result (Gives (T.Means.meaning t.now) self.now.from.place self.now.from.minute self.now.to.place self.now.to.minute) (NoChange (T.Means.meaning t.now) self.now.from.place self.now.from.minute self.now.to.place self.now.to.minute) }
+    {
+        let Some(number) = connection_of(t, self.to.place) else {
+            return false;
+        };
+        let connection = connection_at(t, number);
+        let ready = self.from.minute + u32::from(transfer_at(t, connection.start));
+        self.from.place == usize::from(connection.start.0)
+            && connection.runs
+            && self.to.minute == ready + wait(t, ready, connection.departure)
+    }
 }
 
 /// Whether the label `from` gives the label `to`: by a ride's arrival, a stay or a change.
-pub fn gives<T: Timetable>(t: &T, from: Stop, to: Stop) -> bool
-    requires from { from.place < places (T.Means.meaning t.now) }
-    requires to { to.place < places (T.Means.meaning t.now) }
-    requires minute { to.minute ≤ 400000000 }
+// The search makes an entry of each, and this crate compares minutes: what they share is one sum each, so functions for both
+// would be no plainer.
+pub(crate) fn gives<T: Timetable>(t: &T, from: Stop, to: Stop) -> bool
+    requires { to.minute ≤ 400000000 }
     ensures { MatchBool result (Gives (T.Means.meaning t.now) from.place from.minute to.place to.minute) (Gives (T.Means.meaning t.now) from.place from.minute to.place to.minute → ⊥) }
 {
     if to.minute < from.minute {
         return false;
     }
-    rides(t, from, to) || stays(t, from, to) || changes(t, from, to)
+    let stops = Stops { from, to };
+    stops.rides(t) || stops.stays(t) || stops.changes(t)
 }

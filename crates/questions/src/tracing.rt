@@ -9,19 +9,19 @@ ghost use Rattle.answers.specs.Backward.{taken};
 ghost use Rattle.answers.specs.Chains.{RowChain, leg_later};
 ghost use Rattle.answers.specs.Promises.{Journeyed};
 ghost use Rattle.answers.specs.Subject.{JourneyTold};
-ghost use Rattle.answers.specs.Walks.{Stands, TakenIn, Room};
+ghost use Rattle.answers.specs.Walks.{TakenIn, Room};
 
-use crate::chain::count_legs;
-use crate::finding::find;
+use crate::asking::Question;
+use crate::chain::Origins;
 use crate::giving::connection_of;
-use crate::rows::{NONE, entry};
+use crate::rows::origin_of;
 use crate::standing::Standing;
-use answers::View;
-use refusals::Refusal;
+use refusals::{Refusal, enough};
 use timetable::{ConnectionNo, Label, Leg, Means, Station, Timetable, connection_at};
 
 /// Takes a ride in front of the legs from index `at` on: aboard, it opens the first of them, else it is a leg of its own.
 /// Answers the index of the first leg.
+// The legs are lent, so an index stands beside them, and `aboard` tells only whether the leg there is still open.
 fn take_ride<T: Timetable>(
     t: &T,
     aboard: bool,
@@ -39,13 +39,11 @@ fn take_ride<T: Timetable>(
 {
     let connection = connection_at(t, number);
     if aboard {
-        let leg = out[at];
         out[at] = Leg {
             train: connection.train,
             first: number,
-            last: leg.last,
             departure,
-            arrival: leg.arrival,
+            ..out[at]
         };
         return at;
     }
@@ -80,65 +78,48 @@ fn take_entry<T: Timetable>(
     }
 }
 
-/// Writes the legs from the last to the first, each later by so many minutes.
-fn write_legs<T: Timetable>(
-    t: &T,
-    view: View,
-    memory: &[Label],
-    row: usize,
-    later: u32,
-    legs: usize,
-    out: &mut [Leg],
-)
-    requires stands { Stands (T.Means.meaning t.now) view memory.now row view.target }
-    requires later { later ≤ 10080 }
-    requires chain { (es : List Entry) × RowChain (T.Means.meaning t.now) memory.now row view.target es × (legs ≡ length (legs_of (T.Means.meaning t.now) es)) }
-    requires fits { legs ≤ length out.old }
-    ensures { (es : List Entry) × RowChain (T.Means.meaning t.now) memory.now row view.target es × (out.new ≡ map (leg_later later) (legs_of (T.Means.meaning t.now) es) ++ drop legs out.old) }
-{
-    let stations = usize::from(t.stations());
-    let mut place = view.target;
-    let mut aboard = false;
-    let mut at = legs;
-    'walk: loop {
-        let label = entry(view, memory, row, place);
-        at = take_entry(t, aboard, place, label.minute + later, at, out);
-        if label.origin == NONE {
-            return;
+impl<T: Timetable> Origins<'_, T> {
+    /// Writes the legs from the last to the first, each later by so many minutes. That the origins give their labels was checked
+    /// when the legs were counted.
+    fn write_legs(&self, later: u32, legs: usize, out: &mut [Leg])
+        requires later { later ≤ 10080 }
+        requires chain { (es : List Entry) × RowChain (T.Means.meaning self.now.timetable.now) self.now.rows.memory.now self.now.row self.now.rows.view.target es × (legs ≡ length (legs_of (T.Means.meaning self.now.timetable.now) es)) }
+        requires fits { legs ≤ length out.old }
+        ensures { (es : List Entry) × RowChain (T.Means.meaning self.now.timetable.now) self.now.rows.memory.now self.now.row self.now.rows.view.target es × (out.new ≡ map (leg_later later) (legs_of (T.Means.meaning self.now.timetable.now) es) ++ drop legs out.old) }
+    {
+        let stations = usize::from(self.timetable.stations());
+        let mut place = self.rows.view.target;
+        let mut aboard = false;
+        // Only some of the entries begin a leg, so the index of the first leg is counted down by hand.
+        let mut at = legs;
+        'walk: loop {
+            let label = self.rows.entry(self.row, place);
+            at = take_entry(self.timetable, aboard, place, label.minute + later, at, out);
+            let Some(origin) = origin_of(label) else {
+                return;
+            };
+            aboard = stations <= place;
+            place = origin;
         }
-        aboard = stations <= place;
-        place = label.origin as usize;
     }
 }
 
-/// Checks all that is asked, and writes the legs if there is room for them.
-fn answer<T: Timetable>(
-    t: &T,
-    standing: Standing,
-    memory: &[Label],
-    target: Station,
-    minute: u32,
-    out: &mut [Leg],
-) -> Result<usize, Refusal>
-    ensures { Journeyed (T.Means.meaning t.now) standing.source.0 standing.rows memory.now target.0 minute out.old result out.new }
-{
-    let found = find(t, standing, memory, target, minute)?;
-    let Some(legs) = count_legs(t, found.view, memory, found.hit.row) else {
-        return Err(Refusal::ForeignRows(found.hit.row));
-    };
-    if out.len() < legs {
-        return Err(Refusal::ShortAnswer(legs));
+impl<T: Timetable> Question<'_, T> {
+    /// Checks all that is asked, and writes the legs if there is room for them.
+    fn journey(&self, minute: u32, out: &mut [Leg]) -> Result<usize, Refusal>
+        ensures { Journeyed (T.Means.meaning self.now.timetable.now) self.now.standing.source.0 self.now.standing.rows self.now.memory.now self.now.target.0 minute out.old result out.new }
+    {
+        let found = self.find(minute)?;
+        let origins = Origins {
+            timetable: self.timetable,
+            rows: found.rows,
+            row: found.hit.row,
+        };
+        let legs = origins.count_legs()?;
+        enough(out.len(), legs, Refusal::ShortAnswer(legs))?;
+        origins.write_legs(found.later(), legs, out);
+        Ok(legs)
     }
-    write_legs(
-        t,
-        found.view,
-        memory,
-        found.hit.row,
-        found.hit.periods * found.view.period,
-        legs,
-        out,
-    );
-    Ok(legs)
 }
 
 /// Writes the legs of an itinerary that has the pair that arrive answers, in the order in which they are taken, and answers
@@ -158,5 +139,11 @@ pub fn journey<T: Timetable>(
     ensures answer { Journeyed (T.Means.meaning t.now) standing.source.0 standing.rows memory.now target.0 minute out.old result out.new }
     ensures searched { Rows (T.Means.meaning t.now) standing.source.0 memory.now → standing.rows ≡ ranks (T.Means.meaning t.now) standing.source.0 → JourneyTold (T.Means.meaning t.now) standing.source.0 memory.now target.0 minute out.old result out.new }
 {
-    answer(t, standing, memory, target, minute, out)
+    let question = Question {
+        timetable: t,
+        standing,
+        memory,
+        target,
+    };
+    question.journey(minute, out)
 }

@@ -2,6 +2,7 @@ ghost use Rattle.std.specs.Prelude.{◌≡◌, ℕ, Bool};
 ghost use Rattle.queue.specs.Order.{Sound};
 
 /// A kind of entry. Its order is total, has the earlier minute first and ties only equal entries.
+// It is no `Ord`: that may tie entries that differ and need not go by the minute, so a law would stand here all the same.
 pub trait Entry: Copy {
     /// x is to be handed out strictly before y
     ghost ahead: { Self → Self → Bool };

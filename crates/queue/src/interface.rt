@@ -14,6 +14,8 @@ pub trait Queue<E: Entry> {
     /// the capacity: the number of cells of its memory
     ghost room: { Self → ℕ };
 
+    /// the queue is in order
+    // It is a premise and no invariant, so that a make need only mean something from its making or a clear on.
     ghost ordered: { Self → Type 0 };
 
     /// Adds an entry. Refused: `FullQueue`, exactly where the entries held equal the capacity, and the queue is as it

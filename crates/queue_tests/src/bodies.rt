@@ -1,15 +1,16 @@
 //! What every make of queue must do. Each body clears the queue first.
 
-use crate::model::{board, next, take_first};
+use crate::model::{Draws, board, take_first};
 use entries::{BoardEntry, LabelEntry, Place, Rank};
 use queue::{Entry, Queue};
-use refusals::Refusal;
+use refusals::refused_as as told;
 use std::alloc::Global;
+use std::fmt::Debug;
 use std::process::Abort;
 use std::test::Fail;
 
 /// How many entries a hub minute has here.
-pub const HUB: u32 = 4096;
+const HUB: u32 = 4096;
 
 pub fn label(minute: u32, rank: u32, place: u32, origin: u32) -> LabelEntry {
     LabelEntry {
@@ -20,18 +21,18 @@ pub fn label(minute: u32, rank: u32, place: u32, origin: u32) -> LabelEntry {
     }
 }
 
-/// Number, layer and item of a refusal; zeros where there is none.
-pub fn told(res: Result<(), Refusal>) -> (u8, u8, usize) {
-    match res {
-        Ok(()) => (0, 0, 0),
-        Err(refusal) => (refusal.number(), refusal.layer(), refusal.item()),
+fn put_all<E: Entry, Q: Queue<E>>(rt: &impl Abort, q: &mut Q, entries: &[E]) {
+    for e in entries {
+        assert_eq!(rt; told(q.put(*e)), None);
     }
 }
 
-fn put_all<E: Entry, Q: Queue<E>>(rt: &impl Abort, q: &mut Q, entries: &[E]) {
+/// Takes all that is held, which are these entries.
+fn take_all<E: Entry + PartialEq + Debug, Q: Queue<E>>(rt: &impl Abort, q: &mut Q, entries: &[E]) {
     for e in entries {
-        assert_eq!(rt; told(q.put(*e)), (0, 0, 0));
+        assert_eq!(rt; q.take(), Some(*e));
     }
+    assert!(rt; q.take().is_none());
 }
 
 /// Thousands of entries of one minute fill the queue to the last cell, and come back the highest rank first.
@@ -41,9 +42,9 @@ pub fn hub_minute<Q: Queue<LabelEntry>>(rt: &impl Abort, q: &mut Q) -> Result<()
     for i in 0..HUB {
         // 1021 and 4096 have no factor in common, so each rank comes once
         let rank = i.wrapping_mul(1021) % HUB;
-        assert_eq!(rt; told(q.put(label(540, rank, i, 7))), (0, 0, 0));
+        assert_eq!(rt; told(q.put(label(540, rank, i, 7))), None);
     }
-    assert_eq!(rt; told(q.put(label(541, 0, 0, 0))), (11, 4, 4096));
+    assert_eq!(rt; told(q.put(label(541, 0, 0, 0))), Some((11, 4, 4096)));
     assert_eq!(rt; q.held(), 4096);
     for i in 0..HUB {
         let e = q.take().ok_or("none too early")?;
@@ -74,14 +75,11 @@ pub fn label_order<Q: Queue<LabelEntry>>(rt: &impl Abort, q: &mut Q) {
         label(9, 1, 3, 4),
     ];
     put_all(rt, q, &shuffled);
-    for e in expected {
-        assert_eq!(rt; q.take(), Some(e));
-    }
-    assert!(rt; q.take().is_none());
+    take_all(rt, q, &expected);
 }
 
 /// Minutes around the number of buckets, and the largest that there are.
-pub fn far_apart<Q: Queue<BoardEntry>>(rt: &impl Abort, q: &mut Q) {
+fn far_apart<Q: Queue<BoardEntry>>(rt: &impl Abort, q: &mut Q) {
     q.clear();
     let shuffled = [
         board(400000255, 1),
@@ -106,34 +104,37 @@ pub fn far_apart<Q: Queue<BoardEntry>>(rt: &impl Abort, q: &mut Q) {
         board(4294967295, 8),
     ];
     put_all(rt, q, &shuffled);
-    for e in expected {
-        assert_eq!(rt; q.take(), Some(e));
-    }
-    assert!(rt; q.take().is_none());
+    take_all(rt, q, &expected);
     // an earlier minute than the last one taken
     put_all(rt, q, &[board(4294967295, 1), board(300, 2), board(44, 3)]);
     assert_eq!(rt; q.take(), Some(board(44, 3)));
     put_all(rt, q, &[board(43, 4), board(45, 5)]);
-    assert_eq!(rt; q.take(), Some(board(43, 4)));
-    assert_eq!(rt; q.take(), Some(board(45, 5)));
-    assert_eq!(rt; q.take(), Some(board(300, 2)));
-    assert_eq!(rt; q.take(), Some(board(4294967295, 1)));
+    take_all(
+        rt,
+        q,
+        &[
+            board(43, 4),
+            board(45, 5),
+            board(300, 2),
+            board(4294967295, 1),
+        ],
+    );
 }
 
 /// A cell that was given back is used again, and a clear forgets what is held.
-pub fn refill<Q: Queue<BoardEntry>>(rt: &impl Abort, q: &mut Q) {
+fn refill<Q: Queue<BoardEntry>>(rt: &impl Abort, q: &mut Q) {
     q.clear();
     assert_eq!(rt; q.capacity(), 16);
     for round in 0..40u32 {
         for i in 0..16u16 {
-            assert_eq!(rt; told(q.put(board(round, i))), (0, 0, 0));
+            assert_eq!(rt; told(q.put(board(round, i))), None);
         }
-        assert_eq!(rt; told(q.put(board(0, 0))), (11, 4, 16));
+        assert_eq!(rt; told(q.put(board(0, 0))), Some((11, 4, 16)));
         for i in 0..8u16 {
             assert_eq!(rt; q.take(), Some(board(round, i)));
         }
         assert_eq!(rt; q.held(), 8);
-        assert_eq!(rt; told(q.put(board(round, 3))), (0, 0, 0));
+        assert_eq!(rt; told(q.put(board(round, 3))), None);
         assert_eq!(rt; q.take(), Some(board(round, 3)));
         q.clear();
         assert_eq!(rt; q.held(), 0);
@@ -144,10 +145,10 @@ pub fn refill<Q: Queue<BoardEntry>>(rt: &impl Abort, q: &mut Q) {
 /// With no cell every put is refused, and nothing is held.
 pub fn no_cells<Q: Queue<BoardEntry>>(rt: &impl Abort, q: &mut Q) {
     assert_eq!(rt; (q.capacity(), q.held()), (0, 0));
-    assert_eq!(rt; told(q.put(board(1, 1))), (11, 4, 0));
+    assert_eq!(rt; told(q.put(board(1, 1))), Some((11, 4, 0)));
     assert!(rt; q.take().is_none());
     q.clear();
-    assert_eq!(rt; told(q.put(board(1, 1))), (11, 4, 0));
+    assert_eq!(rt; told(q.put(board(1, 1))), Some((11, 4, 0)));
     assert!(rt; q.take().is_none());
 }
 
@@ -159,27 +160,28 @@ fn step<Q: Queue<BoardEntry>>(
     number: u32,
     span: u32,
 ) -> Result<(), Fail> {
-    let draw = number / 65536 % 1000;
-    if draw < 2 {
-        q.clear();
-        list.clear();
-    } else if draw < 550 {
-        let e = board(number % span.max(1), (number / 7 % 5) as u16);
-        if list.len() < 16 {
-            assert_eq!(rt; told(q.put(e)), (0, 0, 0));
-            list.push(e)?;
-        } else {
-            assert_eq!(rt; told(q.put(e)), (11, 4, 16));
+    match number / 65536 % 1000 {
+        0..=1 => {
+            q.clear();
+            list.clear();
         }
-    } else {
-        assert_eq!(rt; q.take(), take_first(list));
+        2..=549 => {
+            let e = board(number % span.max(1), (number / 7 % 5) as u16);
+            if list.len() < 16 {
+                assert_eq!(rt; told(q.put(e)), None);
+                list.push(e)?;
+            } else {
+                assert_eq!(rt; told(q.put(e)), Some((11, 4, 16)));
+            }
+        }
+        _ => assert_eq!(rt; q.take(), take_first(list)),
     }
     assert_eq!(rt; q.held(), list.len());
     Ok(())
 }
 
 /// Two thousand puts, takes and clears beside a plain list, with minutes below `span`.
-pub fn random<Q: Queue<BoardEntry>>(
+fn random<Q: Queue<BoardEntry>>(
     rt: &impl Abort,
     heap: Global,
     q: &mut Q,
@@ -187,10 +189,18 @@ pub fn random<Q: Queue<BoardEntry>>(
 ) -> Result<(), Fail> {
     q.clear();
     let mut list = Vec::new(heap);
-    let mut seed = span;
-    for _ in 0..2000 {
-        seed = next(seed);
-        step(rt, q, &mut list, seed, span)?;
+    for number in Draws(span).take(2000) {
+        step(rt, q, &mut list, number, span)?;
+    }
+    Ok(())
+}
+
+/// All that a queue of sixteen departures must do.
+pub fn sixteen<Q: Queue<BoardEntry>>(rt: &impl Abort, heap: Global, q: &mut Q) -> Result<(), Fail> {
+    far_apart(rt, q);
+    refill(rt, q);
+    for span in [10, 700, 4000000000] {
+        random(rt, heap, q, span)?;
     }
     Ok(())
 }

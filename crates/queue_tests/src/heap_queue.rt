@@ -21,11 +21,7 @@ fn labels(rt: HostRuntime) {
 fn boards(rt: HostRuntime) -> Result<(), Fail> {
     let mut cells = [board(5, 5); 16];
     let mut q = Heap::new(&mut cells);
-    far_apart(&rt, &mut q);
-    refill(&rt, &mut q);
-    random(&rt, rt.alloc(), &mut q, 10)?;
-    random(&rt, rt.alloc(), &mut q, 700)?;
-    random(&rt, rt.alloc(), &mut q, 4000000000)
+    sixteen(&rt, rt.alloc(), &mut q)
 }
 
 #[test]

@@ -1,4 +1,4 @@
-//! A plain list that stands for a queue, and numbers that look random.
+//! A plain list that stands for a queue, and random sequences.
 
 use entries::BoardEntry;
 use timetable::ConnectionNo;
@@ -10,31 +10,22 @@ pub fn board(minute: u32, connection: u16) -> BoardEntry {
     }
 }
 
-fn earlier(a: &BoardEntry, b: &BoardEntry) -> bool {
-    a.minute < b.minute || a.minute == b.minute && a.connection.0 < b.connection.0
-}
-
 /// Takes the first by minute and connection out of the list.
 pub fn take_first(list: &mut Vec<BoardEntry>) -> Option<BoardEntry> {
-    let mut first = None;
-    let mut place = 0;
-    for (i, e) in list.iter().enumerate() {
-        let sooner = match &first {
-            None => true,
-            Some(f) => earlier(e, f),
-        };
-        if sooner {
-            first = Some(*e);
-            place = i;
-        }
-    }
-    if place < list.len() {
-        return Some(list.remove(place));
-    }
-    None
+    let first = *list.iter().min_by_key(|e| (e.minute, e.connection.0))?;
+    let place = list.iter().position(|e| *e == first)?;
+    Some(list.remove(place))
 }
 
-/// The next of a sequence of numbers.
-pub fn next(seed: u32) -> u32 {
-    seed.wrapping_mul(1664525).wrapping_add(1013904223)
+/// Numbers that look random, from a seed on.
+#[derive(Drop)]
+pub struct Draws(pub u32);
+
+impl Iterator for Draws {
+    type Item = u32;
+
+    fn next(&mut self) -> Option<u32> {
+        self.0 = self.0.wrapping_mul(1664525).wrapping_add(1013904223);
+        Some(self.0)
+    }
 }

@@ -2,7 +2,13 @@
 
 #![tactic(auto)]
 
+pub mod layer;
 pub mod refusal;
+pub mod sizes;
 pub mod text;
+pub mod told;
 
+pub use layer::Layer;
 pub use refusal::Refusal;
+pub use sizes::enough;
+pub use told::refused_as;

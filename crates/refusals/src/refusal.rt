@@ -1,8 +1,11 @@
 ghost use Rattle.std.specs.Prelude.{◌≡◌};
 ghost use Rattle.refusals.specs.Told.{told};
+ghost use Rattle.refusals.specs.Layers.{layer_number};
+
+use crate::layer::Layer;
 
 /// Why a call was refused. Each case carries the item that the refusal names.
-#[derive(Clone, Copy)]
+#[derive(Clone, Copy, PartialEq, Eq, Debug)]
 pub enum Refusal {
     // opening an image
     /// an image shorter than its header: its length
@@ -114,12 +117,12 @@ impl Refusal {
         }
     }
 
-    /// The layer that refuses: 1 timetable, 2 notices, 3 planner, 4 queue.
-    pub fn layer(self) -> u8
-        ensures { result ≡ (told self).layer }
+    /// The layer that refuses.
+    pub fn layer(self) -> Layer
+        ensures { layer_number result ≡ (told self).layer }
     {
         match self {
-            Refusal::FullQueue(_) => 4,
+            Refusal::FullQueue(_) => Layer::Queue,
             Refusal::ShortHeader(_)
             | Refusal::WrongMark(_)
             | Refusal::UnknownVersion(_)
@@ -131,11 +134,11 @@ impl Refusal {
             | Refusal::BrokenTrain(_)
             | Refusal::NoStation(_)
             | Refusal::NoConnection(_)
-            | Refusal::ShortOutput(_) => 1,
+            | Refusal::ShortOutput(_) => Layer::Timetable,
             Refusal::NoTrain(_)
             | Refusal::DelayLimit(_)
             | Refusal::FullNotices(_)
-            | Refusal::NothingToLift(_) => 2,
+            | Refusal::NothingToLift(_) => Layer::Notices,
             Refusal::NoSource(_)
             | Refusal::SmallBoard(_)
             | Refusal::SmallLabelQueue(_)
@@ -147,7 +150,7 @@ impl Refusal {
             | Refusal::ShortRows(_)
             | Refusal::ForeignRows(_)
             | Refusal::Unreachable(_)
-            | Refusal::ShortAnswer(_) => 3,
+            | Refusal::ShortAnswer(_) => Layer::Planner,
         }
     }
 
@@ -156,35 +159,42 @@ impl Refusal {
         ensures { result ≡ (told self).item }
     {
         match self {
-            Refusal::ShortHeader(length) => length,
-            Refusal::WrongMark(position) => position,
-            Refusal::UnknownVersion(version) => usize::from(version),
-            Refusal::HeaderLimit(byte) => byte,
-            Refusal::WrongLength(length) => length,
-            Refusal::LongTransfer(station) => usize::from(station),
-            Refusal::RecordLimit(number) => usize::from(number),
-            Refusal::SameStation(number) => usize::from(number),
-            Refusal::BrokenTrain(number) => usize::from(number),
-            Refusal::NoStation(number) => usize::from(number),
-            Refusal::NoConnection(number) => usize::from(number),
-            Refusal::FullQueue(capacity) => capacity,
-            Refusal::ShortOutput(needed) => needed,
-            Refusal::NoTrain(train) => usize::from(train),
-            Refusal::DelayLimit(delay) => usize::from(delay),
-            Refusal::FullNotices(train) => usize::from(train),
-            Refusal::NothingToLift(train) => usize::from(train),
-            Refusal::NoSource(source) => usize::from(source),
-            Refusal::SmallBoard(needed) => needed,
-            Refusal::SmallLabelQueue(needed) => needed,
-            Refusal::SmallLabelMemory(needed) => needed,
-            Refusal::NoSearch => 0,
-            Refusal::NoTarget(target) => usize::from(target),
-            Refusal::TargetIsSource(target) => usize::from(target),
+            Refusal::ShortHeader(n)
+            | Refusal::WrongMark(n)
+            | Refusal::HeaderLimit(n)
+            | Refusal::WrongLength(n)
+            | Refusal::FullQueue(n)
+            | Refusal::ShortOutput(n)
+            | Refusal::SmallBoard(n)
+            | Refusal::SmallLabelQueue(n)
+            | Refusal::SmallLabelMemory(n)
+            | Refusal::ShortRows(n)
+            | Refusal::ForeignRows(n)
+            | Refusal::ShortAnswer(n) => n,
+            Refusal::UnknownVersion(n)
+            | Refusal::LongTransfer(n)
+            | Refusal::RecordLimit(n)
+            | Refusal::SameStation(n)
+            | Refusal::BrokenTrain(n)
+            | Refusal::NoStation(n)
+            | Refusal::NoConnection(n)
+            | Refusal::NoTrain(n)
+            | Refusal::DelayLimit(n)
+            | Refusal::FullNotices(n)
+            | Refusal::NothingToLift(n)
+            | Refusal::NoSource(n)
+            | Refusal::NoTarget(n)
+            | Refusal::TargetIsSource(n)
+            | Refusal::Unreachable(n) => usize::from(n),
             Refusal::MinuteLimit(minute) => minute as usize,
-            Refusal::ShortRows(needed) => needed,
-            Refusal::ForeignRows(row) => row,
-            Refusal::Unreachable(target) => usize::from(target),
-            Refusal::ShortAnswer(needed) => needed,
+            Refusal::NoSearch => 0,
         }
+    }
+
+    /// Number, layer and item, as equipment reads them.
+    pub fn told(self) -> (u8, u8, usize)
+        ensures { result ≡ ((told self).number, (told self).layer, (told self).item) }
+    {
+        (self.number(), self.layer().number(), self.item())
     }
 }

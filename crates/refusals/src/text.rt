@@ -49,17 +49,8 @@ impl fmt::Display for Refusal {
     ghost output = { λ r. Some (line r) };
 
     fn fmt<W: fmt::Write>(&self, f: &mut fmt::Formatter<W>) -> fmt::Result {
-        let number = self.number();
-        let layer = self.layer();
-        let item = self.item();
+        let (number, layer, item) = self.told();
         let meaning = self.meaning();
         write!(f, "refused {number}, layer {layer}, item {item}: {meaning}")
-    }
-}
-
-/// The same line, for messages about a failed test.
-impl fmt::Debug for Refusal {
-    fn fmt<W: fmt::Write>(&self, f: &mut fmt::Formatter<W>) -> fmt::Result {
-        write!(f, "{self}")
     }
 }

@@ -1,7 +1,7 @@
 use timetable::{Station, Train};
 
 /// A call of a planner.
-#[derive(Clone, Copy)]
+#[derive(Clone, Copy, PartialEq, Eq, Debug)]
 pub enum Call {
     Cancel(Train),
     /// the minutes by which it is late

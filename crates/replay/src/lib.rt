@@ -7,12 +7,17 @@
 #![tactic(auto)]
 
 mod answer;
+mod buffers;
 mod call;
 mod carrying;
+mod lent;
 mod order;
+mod queue_pair;
 mod running;
 
 pub use answer::Answer;
+pub use buffers::Buffers;
 pub use call::Call;
 pub use order::{Order, Queues};
+pub use queue_pair::QueuePair;
 pub use running::replay;

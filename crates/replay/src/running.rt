@@ -2,20 +2,23 @@
 
 ghost use Rattle.std.specs.Prelude.{◌≡◌, min, List, map, length, take, drop};
 ghost use Rattle.law.specs.Book.{fresh};
-ghost use Rattle.replay.specs.Runs.{Step, Run};
+ghost use Rattle.replay.specs.Runs.{Step, Run, SameBuffers, SameQueues, held, room_of};
 
 use crate::answer::Answer;
+use crate::buffers::Buffers;
 use crate::carrying::carry_out;
 use crate::order::Order;
+use crate::queue_pair::QueuePair;
 use entries::{BoardEntry, LabelEntry};
 use planner::Planner;
 use queue::Queue;
-use timetable::{Label, Leg, Pair, Timetable};
+use timetable::Timetable;
 
 /// Carries out a list of calls on a fresh planner over the timetable, with one label memory, and gives an answer for each, as far
 /// as there is room for the answers. Answers how many calls were carried out.
 ///
-/// The queues may hold anything, and the label memory and the outputs too. The queues keep their capacities.
+/// The queues may hold anything, and the label memory and the outputs too. The queues keep their capacities, and the buffers their
+/// lengths.
 pub fn replay<
     T: Timetable + Drop,
     B: Queue<BoardEntry>,
@@ -25,37 +28,26 @@ pub fn replay<
 >(
     timetable: T,
     orders: &[Order],
-    first_board: &mut B,
-    first_labels: &mut L,
-    second_board: &mut C,
-    second_labels: &mut M,
-    memory: &mut [Label],
-    pairs: &mut [Pair],
-    legs: &mut [Leg],
+    first: &mut QueuePair<B, L>,
+    second: &mut QueuePair<C, M>,
+    buffers: &mut Buffers,
     answers: &mut [Answer],
 ) -> usize
     ensures number { result ≡ min (length orders.now) (length answers.old) }
     ensures later { drop result answers.new ≡ drop result answers.old }
-    ensures rooms { (B.Queue.room first_board.new ≡ B.Queue.room first_board.old) × ((L.Queue.room first_labels.new ≡ L.Queue.room first_labels.old) × ((C.Queue.room second_board.new ≡ C.Queue.room second_board.old) × (M.Queue.room second_labels.new ≡ M.Queue.room second_labels.old))) }
+    ensures first { SameQueues B.Queue.room L.Queue.room first.old first.new }
+    ensures second { SameQueues C.Queue.room M.Queue.room second.old second.new }
+    ensures buffers { SameBuffers buffers.old buffers.new }
     ensures law { (steps : List Step)
         × (map (λ s. s.ordered) steps ≡ take result orders.now)
         × (map (λ s. s.answered) steps ≡ take result answers.new)
-        × Run (T.Means.meaning timetable) (record { first_board = B.Queue.room first_board.old; first_labels = L.Queue.room first_labels.old; second_board = C.Queue.room second_board.old; second_labels = M.Queue.room second_labels.old }) fresh (record { memory = memory.entry.now; pairs = pairs.old; legs = legs.old }) steps (record { memory = memory.exit.now; pairs = pairs.new; legs = legs.new }) }
+        × Run (T.Means.meaning timetable) (record { first = room_of B.Queue.room L.Queue.room first.old; second = room_of C.Queue.room M.Queue.room second.old }) fresh (held buffers.old) steps (held buffers.new) }
 {
     let mut planner = Planner::new(timetable);
     let n = orders.len().min(answers.len());
-    for i in 0..n {
-        answers[i] = carry_out(
-            &mut planner,
-            orders[i],
-            first_board,
-            first_labels,
-            second_board,
-            second_labels,
-            memory,
-            pairs,
-            legs,
-        );
+    // A proof knows nothing of what is written through `answers.iter_mut().zip(..)`, so an answer is written by its index.
+    for (i, order) in orders[..n].iter().enumerate() {
+        answers[i] = carry_out(&mut planner, order, first, second, buffers);
     }
     n
 }

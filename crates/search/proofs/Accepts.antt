@@ -28,7 +28,3 @@ accepted t s board labels memory e =
       labels_fit = ltb-false labels (queue_needed t s) c.0;
       memory_fits = ltb-false memory (memory_needed t s) d.0;
     }
-
--- equal sources and capacities, an equal refusal
-pub same_refusal : (t : Table) (s s' board board' labels labels' memory : ℕ) → s ≡ s' → board ≡ board' → labels ≡ labels' → search_refusal t s board labels memory ≡ search_refusal t s' board' labels' memory
-same_refusal t s s' board board' labels labels' memory a b c = λ i. search_refusal t (a i) (b i) (c i) memory

@@ -1,11 +1,10 @@
 -- The sizes of a search, and when it is refused.
-use Rattle.std.specs.Prelude.{◌≡◌, ℕ, ◌+◌, ◌*◌, ◌≤◌, cond, Some, None, Option, nat_le, nat_lt}
+use Rattle.std.specs.Prelude.{ℕ, cond, Some, None, Option, nat_le, nat_lt}
 use Rattle.refusals.specs.declared.refusal.Refusal.{Refusal}
 use Rattle.refusals.specs.declared.refusal.Refusal.TheVariants.{NoSource, SmallBoard, SmallLabelQueue, SmallLabelMemory}
 use Rattle.timetable.specs.Table.{Table, stations}
-use Rattle.timetable.specs.Labels.{ranks, places}
+use Rattle.timetable.specs.Labels.{ranks}
 use Rattle.turns.specs.Running.{queue_needed, memory_needed}
-use Rattle.search.specs.declared.plan.Plan.{Plan}
 
 -- why a search from s is refused, with these capacities of the queues and this length of the memory: the first of these
 -- that holds
@@ -15,13 +14,3 @@ search_refusal t s board labels memory =
     (cond (nat_lt board (ranks t s)) (Some (SmallBoard (ranks t s)))
     (cond (nat_lt labels (queue_needed t s)) (Some (SmallLabelQueue (queue_needed t s)))
     (cond (nat_lt memory (memory_needed t s)) (Some (SmallLabelMemory (memory_needed t s))) None)))
-
--- the sizes of a search from the plan's source
-pub record Planned (t : Table) (p : Plan) : Type 0 where
-  pub places : p.places ≡ places t
-  pub departures : p.departures ≡ ranks t p.source.0
-
--- a memory that has room for the rows of a plan
-pub record Fits (p : Plan) (n : ℕ) : Type 0 where
-  pub long : p.departures * (p.places + 1) ≤ n
-  pub small : p.departures * (p.places + 1) ≤ 300000000

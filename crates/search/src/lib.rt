@@ -30,17 +30,13 @@
 
 #![tactic(auto)]
 
-ghost use Rattle.std.specs.Prelude.{◌≡◌, min, length, Some, None, MatchResult};
-ghost use Rattle.search.specs.Sizes.{search_refusal};
-ghost use Rattle.search.specs.Answer.{Searched, Emptied};
+ghost use Rattle.std.specs.Prelude.{min};
+ghost use Rattle.search.specs.Answer.{SearchAnswered, Returned};
 
-use board::fill;
 use entries::{BoardEntry, LabelEntry};
-use opening::open;
-use plan::{check, plan_from};
+use plan::Plan;
 use queue::Queue;
 use refusals::Refusal;
-use run::run;
 use timetable::{Label, Means, Station, Timetable};
 
 mod board;
@@ -55,6 +51,10 @@ mod run;
 
 pub use found::Found;
 pub use limits::Limits;
+pub use plan::departures;
+
+// The two queues are two parameters throughout: a struct that lends both would have to say, beside what each holds, that it
+// still lends the same two.
 
 /// Writes the rows of a search from a source: every leading label with its origin, a row for each first departure.
 ///
@@ -71,15 +71,11 @@ pub fn search<T: Timetable, B: Queue<BoardEntry>, L: Queue<LabelEntry>>(
     labels: &mut L,
     memory: &mut [Label],
 ) -> Result<Found, Refusal>
-    ensures answer { MatchResult result (λ f. (search_refusal (T.Means.meaning t.now) source.0 (B.Queue.room board.old) (L.Queue.room labels.old) (length memory.old) ≡ None) × Searched (T.Means.meaning t.now) source.0 memory.old memory.new f) (λ e. (search_refusal (T.Means.meaning t.now) source.0 (B.Queue.room board.old) (L.Queue.room labels.old) (length memory.old) ≡ Some e) × (memory.new ≡ memory.old)) }
-    ensures board { MatchResult result (λ _. Emptied B.Queue.ordered B.Queue.bag B.Queue.room board.old board.new) (λ _. board.new ≡ board.old) }
-    ensures labels { MatchResult result (λ _. Emptied L.Queue.ordered L.Queue.bag L.Queue.room labels.old labels.new) (λ _. labels.new ≡ labels.old) }
+    ensures answer { SearchAnswered (T.Means.meaning t.now) source.0 (B.Queue.room board.old) (L.Queue.room labels.old) memory.old result memory.new }
+    ensures board { Returned B.Queue result board.old board.new }
+    ensures labels { Returned L.Queue result labels.old labels.new }
 {
-    let limits = Limits {
-        board: board.capacity(),
-        labels: labels.capacity(),
-    };
-    search_within(t, source, limits, board, labels, memory)
+    search_within(t, source, Limits::of(board, labels), board, labels, memory)
 }
 
 /// The same, with no more entries of each queue than the limits say: its capacity counts up to its limit.
@@ -91,21 +87,21 @@ pub fn search_within<T: Timetable, B: Queue<BoardEntry>, L: Queue<LabelEntry>>(
     labels: &mut L,
     memory: &mut [Label],
 ) -> Result<Found, Refusal>
-    ensures answer { MatchResult result (λ f. (search_refusal (T.Means.meaning t.now) source.0 (min limits.board (B.Queue.room board.old)) (min limits.labels (L.Queue.room labels.old)) (length memory.old) ≡ None) × Searched (T.Means.meaning t.now) source.0 memory.old memory.new f) (λ e. (search_refusal (T.Means.meaning t.now) source.0 (min limits.board (B.Queue.room board.old)) (min limits.labels (L.Queue.room labels.old)) (length memory.old) ≡ Some e) × (memory.new ≡ memory.old)) }
-    ensures board { MatchResult result (λ _. Emptied B.Queue.ordered B.Queue.bag B.Queue.room board.old board.new) (λ _. board.new ≡ board.old) }
-    ensures labels { MatchResult result (λ _. Emptied L.Queue.ordered L.Queue.bag L.Queue.room labels.old labels.new) (λ _. labels.new ≡ labels.old) }
+    ensures answer { SearchAnswered (T.Means.meaning t.now) source.0 (min limits.board (B.Queue.room board.old)) (min limits.labels (L.Queue.room labels.old)) memory.old result memory.new }
+    ensures board { Returned B.Queue result board.old board.new }
+    ensures labels { Returned L.Queue result labels.old labels.new }
 {
-    let planned = plan_from(t, source);
+    let plan = Plan::new(t, source);
     let board_room = limits.board.min(board.capacity());
     let labels_room = limits.labels.min(labels.capacity());
-    check(t, planned, board_room, labels_room, memory.len())?;
+    plan.check(board_room, labels_room, memory.len())?;
     board.clear();
-    fill(t, source, board);
+    plan.fill(board);
     labels.clear();
-    open(t, planned, board, labels, memory);
-    let written = run(t, planned, labels, memory);
+    plan.open(board, labels, memory);
+    let written = plan.run(labels, memory);
     Ok(Found {
-        departures: planned.departures as u32,
+        departures: plan.departures,
         labels: written,
     })
 }

@@ -1,71 +1,61 @@
-//! The sizes of a search, and whether what is lent suffices.
+//! The plan of a search: its source and its sizes, and whether what is lent suffices.
 
-ghost use Rattle.std.specs.Prelude.{◌≡◌, Some, None, MatchResult};
-ghost use Rattle.timetable.specs.Labels.{ranks};
-ghost use Rattle.search.specs.Sizes.{Planned, search_refusal};
+ghost use Rattle.std.specs.Prelude.{◌≡◌};
+ghost use Rattle.std.specs.Result.{result_err};
+ghost use Rattle.timetable.specs.Labels.{ranks, places as all_places};
+ghost use Rattle.search.specs.Sizes.{search_refusal};
 
-use crate::board::departure_of;
-use refusals::Refusal;
-use timetable::{ConnectionNo, Means, Station, Timetable};
+use crate::board::is_first;
+use refusals::{Refusal, enough};
+use timetable::{ConnectionNo, Means, Station, Timetable, places};
 
-/// The source of a search and its sizes: how many places and how many first departures there are.
-#[derive(Clone, Copy)]
-pub struct Plan {
+/// A search from a source over a timetable: how many places and how many first departures there are.
+#[derive(Drop)]
+pub struct Plan<'t, T: Timetable> {
+    pub t: &'t T,
     pub source: Station,
     pub places: usize,
-    pub departures: usize,
+    pub departures: u32,
+    ghost every_place: { places ≡ all_places (T.Means.meaning t.now) },
+    ghost every_rank: { departures ≡ ranks (T.Means.meaning t.now) source.0 },
 }
 
-/// How many first departures there are.
+/// How many first departures there are from a source: the connections that run and start there.
 pub fn departures<T: Timetable>(t: &T, source: Station) -> usize
     ensures { result ≡ ranks (T.Means.meaning t.now) source.0 }
 {
-    let mut n: usize = 0;
-    for c in 0..t.connections() {
-        if let Some(_) = departure_of(t, source, ConnectionNo(c)) {
-            n += 1;
+    (0..t.connections())
+        .filter(|c| is_first(t, source, ConnectionNo(*c)))
+        .count()
+}
+
+impl<'t, T: Timetable> Plan<'t, T> {
+    /// The plan of a search from a source.
+    pub fn new(t: &'t T, source: Station) -> Self
+        ensures table { result.t.now ≡ t.now }
+        ensures source { result.source ≡ source }
+    {
+        Plan {
+            t,
+            source,
+            places: places(t),
+            departures: departures(t, source) as u32,
         }
     }
-    n
-}
 
-/// The plan of a search from a source.
-pub fn plan_from<T: Timetable>(t: &T, source: Station) -> Plan
-    ensures source { result.source.0 ≡ source.0 }
-    ensures planned { Planned (T.Means.meaning t.now) result }
-{
-    Plan {
-        source,
-        places: usize::from(t.stations()) + usize::from(t.connections()),
-        departures: departures(t, source),
+    /// Whether the source is a station, and the capacities of the queues and the length of the memory suffice.
+    pub fn check(&self, board: usize, labels: usize, memory: usize) -> Result<(), Refusal>
+        ensures { result_err result ≡ search_refusal (T.Means.meaning self.now.t.now) self.now.source.0 board labels memory }
+    {
+        let departures = self.departures as usize;
+        // each rank puts its first ride, and at most a ride's arrival, a stay and a change for each connection
+        let puts = departures * (3 * usize::from(self.t.connections()) + 1);
+        let entries = departures * (self.places + 1);
+        if self.t.stations() <= self.source.0 {
+            return Err(Refusal::NoSource(self.source.0));
+        }
+        enough(board, departures, Refusal::SmallBoard(departures))?;
+        enough(labels, puts, Refusal::SmallLabelQueue(puts))?;
+        enough(memory, entries, Refusal::SmallLabelMemory(entries))
     }
-}
-
-/// Whether the source is a station, and the capacities of the queues and the length of the memory suffice.
-pub fn check<T: Timetable>(
-    t: &T,
-    plan: Plan,
-    board: usize,
-    labels: usize,
-    memory: usize,
-) -> Result<(), Refusal>
-    requires { Planned (T.Means.meaning t.now) plan }
-    ensures { MatchResult result (λ _. search_refusal (T.Means.meaning t.now) plan.source.0 board labels memory ≡ None) (λ e. search_refusal (T.Means.meaning t.now) plan.source.0 board labels memory ≡ Some e) }
-{
-    if t.stations() <= plan.source.0 {
-        return Err(Refusal::NoSource(plan.source.0));
-    }
-    if board < plan.departures {
-        return Err(Refusal::SmallBoard(plan.departures));
-    }
-    // each rank puts its first ride, and at most a ride's arrival, a stay and a change for each connection
-    let needed = plan.departures * (3 * usize::from(t.connections()) + 1);
-    if labels < needed {
-        return Err(Refusal::SmallLabelQueue(needed));
-    }
-    let needed = plan.departures * (plan.places + 1);
-    if memory < needed {
-        return Err(Refusal::SmallLabelMemory(needed));
-    }
-    Ok(())
 }

@@ -1,9 +1,9 @@
 -- A timetable under notices keeps every rule of a timetable.
-use Rattle.std.proofs.Common.{◌≡◌, ℕ, ◌+◌, ◌<◌, ◌≤◌, sym, refl, ◌∙◌, subst, mod-lt, arith}
+use Rattle.std.proofs.Common.{◌≡◌, ℕ, ◌+◌, ◌<◌, ◌≤◌, Some, None, Option, sym, refl, ◌∙◌, subst, mod-lt, arith}
 use Rattle.std.proofs.lemmas.List.{get_or-map, length-map}
 use Rattle.timetable.specs.declared.connection.Connection.{Connection}
 use Rattle.timetable.specs.declared.report.Report.{Report}
-use Rattle.timetable.specs.declared.report.Report.TheVariants.{Nothing, Cancelled, Late}
+use Rattle.timetable.specs.declared.report.Report.TheVariants.{Cancelled, Late}
 use Rattle.timetable.specs.Table.{Table, Lawful, LawfulConnection, at, connections, no_connection}
 use Rattle.timetable.specs.Noticed.{noticed, reported}
 
@@ -14,17 +14,17 @@ pub record Keeps (c d : Connection) : Type 0 where
   pub end : d.end.0 ≡ c.end.0
   pub ride : d.ride ≡ c.ride
 
-pub reported_keeps : (p : ℕ) (c : Connection) (r : Report) → Keeps c (reported p c r)
-reported_keeps p c Nothing = record { train = refl; start = refl; end = refl; ride = refl }
-reported_keeps p c Cancelled = record { train = refl; start = refl; end = refl; ride = refl }
-reported_keeps p c (Late d) = record { train = refl; start = refl; end = refl; ride = refl }
+pub reported_keeps : (p : ℕ) (c : Connection) (r : Option Report) → Keeps c (reported p c r)
+reported_keeps p c None = record { train = refl; start = refl; end = refl; ride = refl }
+reported_keeps p c (Some Cancelled) = record { train = refl; start = refl; end = refl; ride = refl }
+reported_keeps p c (Some (Late d)) = record { train = refl; start = refl; end = refl; ride = refl }
 
-reported_in_period : (p : ℕ) (c : Connection) (r : Report) → 1 ≤ p → c.departure < p → (reported p c r).departure < p
-reported_in_period p c Nothing l h = h
-reported_in_period p c Cancelled l h = h
-reported_in_period p c (Late d) l h = mod-lt (c.departure + d) l
+reported_in_period : (p : ℕ) (c : Connection) (r : Option Report) → 1 ≤ p → c.departure < p → (reported p c r).departure < p
+reported_in_period p c None l h = h
+reported_in_period p c (Some Cancelled) l h = h
+reported_in_period p c (Some (Late d)) l h = mod-lt (c.departure + d) l
 
-module _ (t : Table) (says : ℕ → Report) where
+module _ (t : Table) (says : ℕ → Option Report) where
   pub noticed-length : connections (noticed t says) ≡ connections t
   noticed-length = length-map t.list (λ c. reported t.period c (says c.train.0))
 

@@ -1,4 +1,5 @@
 pub mod Table
+pub mod Counted
 pub mod Itinerary
 pub mod Legs
 pub mod Pairs

@@ -1,7 +1,7 @@
 use crate::numbers::{Station, Train};
 
 /// One train's ride from one station to the next.
-#[derive(Clone, Copy, PartialEq, Eq, Debug)]
+#[derive(Clone, Copy, PartialEq, Eq, Default, Debug)]
 pub struct Connection {
     pub train: Train,
     pub start: Station,

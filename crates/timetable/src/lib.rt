@@ -7,6 +7,7 @@
 
 pub mod asking;
 pub mod connection;
+pub mod counts;
 pub mod interface;
 pub mod label;
 pub mod leg;
@@ -14,8 +15,9 @@ pub mod numbers;
 pub mod pair;
 pub mod report;
 
-pub use asking::{connection_at, transfer_at, wait};
+pub use asking::{connection_at, places, transfer_at, wait};
 pub use connection::Connection;
+pub use counts::Counts;
 pub use interface::{Means, Timetable};
 pub use label::Label;
 pub use leg::Leg;

@@ -1,7 +1,7 @@
-/// What is reported of a train.
-#[derive(Clone, Copy)]
+/// What is reported of a train. Where nothing is, there is no report.
+#[derive(Clone, Copy, PartialEq, Eq, Debug)]
 pub enum Report {
-    Nothing,
+    /// it does not run
     Cancelled,
     /// late by so many minutes
     Late(u16),

@@ -1,15 +1,13 @@
 -- Rows in a list, after a write.
-use Rattle.std.proofs.Common.{◌≡◌, ℕ, ◌+◌, ◌*◌, ◌/◌, ◌%◌, ◌<◌, ◌≤◌, List, length, drop, set, sym, ap, ◌∙◌, arith}
-use lib.Arith.{digits_lt, digits_div, digits_mod}
+use Rattle.std.proofs.Common.{◌≡◌, ℕ, ◌+◌, ◌*◌, ◌<◌, ◌≤◌, List, length, drop, set, arith}
+use lib.Arith.{digits_lt}
 use Rattle.std.proofs.lemmas.List.{get_or-set_same, get_or-set_other, drop-set-lt}
 use Rattle.timetable.specs.declared.label.Label.{Label}
 use Rattle.timetable.specs.Rows.{blank}
+use Rattle.journeys.proofs.Small.{apart}
 use Rattle.turns.specs.Cells.{head_at, cell_at}
 
 -- another row or column, another place
-apart : (w a b p q : ℕ) → p < w → q < w → a * w + p ≡ b * w + q → (a ≡ b) × (p ≡ q)
-apart w a b p q h k e = (sym (digits_div a h) ∙ ap (λ (z : ℕ). z / w) e ∙ digits_div b k, sym (digits_mod a h) ∙ ap (λ (z : ℕ). z % w) e ∙ digits_mod b k)
-
 pub inside : (m n i p : ℕ) → i < m → p < n → i * (n + 1) + (1 + p) < m * (n + 1)
 inside m n i p h k = digits_lt h (omega arith)
 

@@ -1,7 +1,11 @@
 -- The first departures, counted and in order on the board.
-use Rattle.std.proofs.Common.{◌≡◌, ℕ, zero, suc, ◌+◌, ◌*◌, ◌<◌, ◌≤◌, true, false, List, [], ◌∷◌, map, length, sym, refl, ap, ◌∙◌, inl, inr, ⊎_elim, add-one, arith}
+use Rattle.std.proofs.Common.{◌≡◌, ℕ, zero, suc, ◌+◌, ◌*◌, ◌<◌, ◌≤◌, true, false, cond, List, [], ◌∷◌, map, length, take, get_or, sym, refl, ap, ◌∙◌, inl, inr, ⊎_elim, add-one, arith}
 use Rattle.std.proofs.lemmas.Bool.{cases_eq, cases_Bool, cond_both, cond-true, cond-false}
 use Rattle.std.proofs.lemmas.Nat.{mul-le}
+use Rattle.std.proofs.lemmas.List.{take_all}
+use Rattle.std.proofs.lemmas.List.FromFn.{length-range_with_len, get_or-range_with_len}
+use Rattle.std.proofs.lemmas.List.Filters.{length-filter_more}
+use Rattle.std.specs.List.{filter, range_with_len}
 use Rattle.queue.specs.Order.{inserted}
 use Rattle.entries.specs.Kinds.{board_ahead}
 use Rattle.timetable.specs.Table.{Table, Lawful, connections}
@@ -34,7 +38,7 @@ module _ (t : Table) where
     unfolding firsts_below
     no_more c e = rw add-one (cond-false (leaves t s c) (listed (sooner t) c (firsts_below t s c)) (firsts_below t s c) e)
 
-    pub departure_length : (c : ℕ) → length (firsts_below t s (c + 1)) ≡ length (departure_by t s c) + length (firsts_below t s c)
+    departure_length : (c : ℕ) → length (firsts_below t s (c + 1)) ≡ length (departure_by t s c) + length (firsts_below t s c)
     departure_length c = ⊎_elim
         (λ e. omega (arith, ap length (more c e), listed_length c (firsts_below t s c), ap length (cond-true (leaves t s c) (board_entry t c ∷ []) [] e)))
         (λ e. omega (arith, ap length (no_more c e), ap length (cond-false (leaves t s c) (board_entry t c ∷ []) [] e)))
@@ -58,6 +62,23 @@ module _ (t : Table) where
     rises : (a b : ℕ) → a ≤ b → length (firsts_below t s a) ≤ length (firsts_below t s b)
     rises a zero h = let z : a ≡ 0 = omega arith in rw z (omega arith)
     rises a (suc b) h = elim (cases_eq a (suc b)) [ inl e ↦ rw e (omega arith) | inr e ↦ rw (← add-one b) (omega (arith, departure_length b, rises a b (omega arith))) ]
+
+    -- the connections below n, tested one after another
+    one_more : (c : ℕ) → length (firsts_below t s (c + 1)) ≡ length (firsts_below t s c) + cond (leaves t s c) 1 0
+    one_more c = ⊎_elim
+        (λ e. omega (arith, ap length (more c e), listed_length c (firsts_below t s c), cond-true {A = ℕ} (leaves t s c) 1 0 e))
+        (λ e. omega (arith, ap length (no_more c e), cond-false {A = ℕ} (leaves t s c) 1 0 e))
+        (cases_Bool (leaves t s c))
+
+    tested : (n c : ℕ) → c ≤ n → length (filter (leaves t s) (take c (range_with_len 0 n))) ≡ length (firsts_below t s c)
+    unfolding firsts_below
+    tested n zero h = refl
+    tested n (suc c) h =
+        let here : get_or (range_with_len 0 n) c 0 ≡ c = omega (arith, get_or-range_with_len 0 n c 0 (omega arith)) in
+        rw (← add-one c) (omega (arith, ap (λ (k : ℕ). length (firsts_below t s k)) (add-one c), length-filter_more (leaves t s) (range_with_len 0 n) c 0 (omega (arith, length-range_with_len 0 n)), ap (λ (k : ℕ). cond {A = ℕ} (leaves t s k) 1 0) here, tested n c (omega arith), one_more c))
+
+    pub tested_all : (n : ℕ) → length (filter (leaves t s) (range_with_len 0 n)) ≡ length (firsts_below t s n)
+    tested_all n = ap (λ (z : List ℕ). length (filter (leaves t s) z)) (sym (take_all n (range_with_len 0 n) (omega (arith, length-range_with_len 0 n)))) ∙ tested n n (omega arith)
 
     -- a board with room for the first departures has room for the next
     pub board_fits : (c n : ℕ) → c < connections t → ranks t s ≤ n → length (departure_by t s c) + length (firsts_below t s c) ≤ n

@@ -1,7 +1,9 @@
 -- Opening the rows, one after another.
-use Rattle.std.proofs.Common.{◌≡◌, ℕ, ◌+◌, ◌*◌, ◌<◌, ◌≤◌, cond, List, [], ◌∷◌, map, length, drop, set, sym, refl, ap, ◌∙◌, subst, inl, inr, ⊎_elim, add-one, arith, length-drop, length-set}
+use Rattle.std.proofs.Common.{rules, replicate, ◌-◌, ◌≡◌, ℕ, ◌+◌, ◌*◌, ◌<◌, ◌≤◌, cond, List, [], ◌∷◌, map, length, drop, set, sym, refl, ap, ◌∙◌, subst, inl, inr, ⊎_elim, add-one, arith, length-drop, length-set}
 use lib.ListN.{length-map}
-use Rattle.std.proofs.lemmas.List.{get_or-set_same, get_or-set_other, drop-set-lt, drop_more}
+use borrow.Rule.Slice.PartMut.{put_mid}
+use Rattle.std.proofs.lemmas.Slice.{overwrites, drop-put_mid}
+use Rattle.std.proofs.lemmas.List.{places as by_place, length-replicate, get_or-set_same, get_or-set_other, drop-set-lt, drop_more}
 use Rattle.std.proofs.lemmas.Bool.{cases_eq}
 use Rattle.std.proofs.lemmas.Nat.{mul-le}
 use Rattle.timetable.specs.declared.label.Label.{Label}
@@ -30,36 +32,40 @@ use Rattle.turns.proofs.Members.{mem-put, put-mem}
 
 -- ---- one row
 
-pub blanked_none : (from : ℕ) (before : List Label) → Blanked from from before before
-blanked_none from before = record { same_length = refl; earlier = λ k h. refl; blanks = λ k h l. absurd (omega arith); later = λ n h. refl }
-
-pub blanked_more : (from k : ℕ) (before after : List Label) → from ≤ k → k < length after → Blanked from k before after → Blanked from (k + 1) before (set after k blank)
-blanked_more from k before after h l b = record {
-  same_length = length-set after k blank ∙ b.same_length;
-  earlier = λ j e. get_or-set_other after k j blank blank (λ z. omega arith) ∙ b.earlier j e;
-  blanks = λ j e f. elim (cases_eq j k) [ inl z ↦ rw z (get_or-set_same after k blank blank l) | inr z ↦ get_or-set_other after k j blank blank z ∙ b.blanks j e (omega arith) ];
-  later = λ n e. drop-set-lt n after k blank (omega arith) ∙ b.later n (omega arith);
-}
+blanked : (from to : ℕ) (before part : List Label) → from ≤ to → to ≤ length before → part ≡ replicate (to - from) blank → Blanked from to before (put_mid from (to - from) before part)
+blanked from to before part h l e =
+    let long : length part ≡ to - from = ap length e ∙ length-replicate (to - from) blank in
+    record {
+      same_length = search (rules, overwrites);
+      earlier = λ k m. search (rules, by_place);
+      blanks = λ k m n. search (rules, by_place);
+      later = λ n m. drop-put_mid from (to - from) before part n (omega arith) (omega arith) long;
+    }
 
 pub row_end : (m n i : ℕ) → i < m → i * (n + 1) + (n + 1) ≤ m * (n + 1)
 row_end m n i h = omega (arith, mul-le (i + 1) (n + 1) m (n + 1) (omega arith) (omega arith))
 
-pub row_opened : (n i : ℕ) (h : Label) (before after : List Label) → i * (n + 1) < length before → Blanked (i * (n + 1) + 1) (i * (n + 1) + 1 + n) (set before (i * (n + 1)) h) after → RowOpened (n + 1) i h before after
-row_opened n i h before after l b = record {
-  same_length = b.same_length ∙ length-set before (i * (n + 1)) h;
-  earlier = λ k e. b.earlier k (omega arith) ∙ get_or-set_other before (i * (n + 1)) k h blank (λ z. omega arith);
-  heads = b.earlier (i * (n + 1)) (omega arith) ∙ get_or-set_same before (i * (n + 1)) h blank l;
-  blanks = λ p e. b.blanks (i * (n + 1) + (1 + p)) (omega arith) (omega arith);
-  later = λ k e. b.later k (omega arith) ∙ drop-set-lt k before (i * (n + 1)) h (omega arith);
-}
+-- the row was made blank, and then its head written
+pub row_opened : (n i : ℕ) (h : Label) (before part : List Label) (end : ℕ) → end ≡ i * (n + 1) + (n + 1) → end ≤ length before → part ≡ replicate (end - i * (n + 1)) blank → RowOpened (n + 1) i h before (set (put_mid (i * (n + 1)) (end - i * (n + 1)) before part) (i * (n + 1)) h)
+row_opened n i h before part end z l e =
+    let w = n + 1 in
+    let cleared = put_mid (i * w) (end - i * w) before part in
+    let b = blanked (i * w) end before part (omega arith) l e in
+    record {
+      same_length = length-set cleared (i * w) h ∙ b.same_length;
+      earlier = λ k m. get_or-set_other cleared (i * w) k h blank (λ y. omega arith) ∙ b.earlier k m;
+      heads = get_or-set_same cleared (i * w) h blank (omega (arith, b.same_length));
+      blanks = λ p m. get_or-set_other cleared (i * w) (i * w + (1 + p)) h blank (λ y. omega arith) ∙ b.blanks (i * w + (1 + p)) (omega arith) (omega arith);
+      later = λ k m. drop-set-lt k cleared (i * w) h (omega arith) ∙ b.later k (omega arith);
+    }
 
 -- ---- all rows
 
-module _ (t : Table) (law : Lawful t) (s : ℕ) (before : List Label) where
-  queue_length : (queue : List LabelEntry) (rank : ℕ) → queue ≡ put_all label_ahead (map waiting (each (opening_at t s) rank)) [] → length queue ≡ rank
-  queue_length queue rank e = omega (arith, ap length e, put_all_length label_ahead (map waiting (each (opening_at t s) rank)) [], length-map (each (opening_at t s) rank) waiting, each-count (opening_at t s) rank (λ i. refl))
+queue_length : (t : Table) (s : ℕ) (queue : List LabelEntry) (rank : ℕ) → queue ≡ put_all label_ahead (map waiting (each (opening_at t s) rank)) [] → length queue ≡ rank
+queue_length t s queue rank e = omega (arith, ap length e, put_all_length label_ahead (map waiting (each (opening_at t s) rank)) [], length-map (each (opening_at t s) rank) waiting, each-count (opening_at t s) rank (λ i. refl))
 
-  module _ (memory : List Label) (board board' : List BoardEntry) (queue : List LabelEntry) (rank : ℕ) (first : BoardEntry) (o : Opening t s before memory board queue rank) (taken : board ≡ first ∷ board') where
+module _ {t : Table} (law : Lawful t) {s : ℕ} {before : List Label} where
+  module _ {memory : List Label} {board board' : List BoardEntry} {queue : List LabelEntry} {rank : ℕ} {first : BoardEntry} (o : Opening t s before memory board queue rank) (taken : board ≡ first ∷ board') where
     pub rank_below : rank < ranks t s
     rank_below = omega (arith, ap length taken, ap length o.on_board, length-map (drop rank (firsts t s)) (board_entry t), length-drop rank (firsts t s))
 
@@ -72,10 +78,10 @@ module _ (t : Table) (law : Lawful t) (s : ℕ) (before : List Label) where
     rest_is : board' ≡ map (board_entry t) (drop (rank + 1) (firsts t s))
     rest_is = let z = split in cc
 
-    pub has_room : (room : ℕ) → queue_needed t s ≤ room → length queue < room
-    has_room room h = omega (arith, queue_length queue rank o.queued, rank_below, mul-le (ranks t s) 1 (ranks t s) (3 * connections t + 1) (omega arith) (omega arith))
+    pub has_room : {room : ℕ} → queue_needed t s ≤ room → length queue < room
+    has_room h = omega (arith, queue_length t s queue rank o.queued, rank_below, mul-le (ranks t s) 1 (ranks t s) (3 * connections t + 1) (omega arith) (omega arith))
 
-    module _ (memory' : List Label) (queue' : List LabelEntry)
+    module _ {memory' : List Label} {queue' : List LabelEntry}
         (opened : RowOpened (width t) rank (record { minute = first.minute; origin = first.connection.0 }) memory memory')
         (put : queue' ≡ put_all label_ahead (waiting (entry first.minute rank (stations t + first.connection.0) nowhere) ∷ []) queue) where
       pub opens_more : Opening t s before memory' board' queue' (rank + 1)
@@ -98,7 +104,7 @@ module _ (t : Table) (law : Lawful t) (s : ℕ) (before : List Label) where
 
   -- ---- the rows are open
 
-  module _ (memory : List Label) (queue : List LabelEntry) (rank room : ℕ) (o : Opening t s before memory [] queue rank) (big : queue_needed t s ≤ room) where
+  module _ {memory : List Label} {queue : List LabelEntry} {rank room : ℕ} (o : Opening t s before memory [] queue rank) (big : queue_needed t s ≤ room) where
     all_open : rank ≡ ranks t s
     all_open = omega (arith, o.below, ap length o.on_board, length-map (drop rank (firsts t s)) (board_entry t), length-drop rank (firsts t s))
 
@@ -118,13 +124,13 @@ module _ (t : Table) (law : Lawful t) (s : ℕ) (before : List Label) where
     none_counted = grid_bound (λ i p. cond {A = ℕ} (is_blank (cell t memory i p)) 0 1) (ranks t s) (places t) 0
         (λ i p h k. omega (arith, ap (λ (l : Label). cond {A = ℕ} (is_blank l) 0 1) (blank_cell i p h k)))
 
-    opened_turn : Turn t s room before memory queue 0
+    pub opened_turn : Turn t s room before memory queue 0
     opened_turn = record {
       done = [];
       state = start begins;
       holds = record { there = λ e m. absurd (nobody m); back = λ i p h k. inl (blank_cell i p h k) };
       count = omega (arith, none_counted);
-      put = omega (arith, queue_length queue rank o.queued, all_open, each-count (opening_at t s) (ranks t s) (λ i. refl));
+      put = omega (arith, queue_length t s queue rank o.queued, all_open, each-count (opening_at t s) (ranks t s) (λ i. refl));
       fits = big;
       long = o.long;
       heads = λ i h. o.heads i (omega (arith, all_open));
@@ -133,7 +139,7 @@ module _ (t : Table) (law : Lawful t) (s : ℕ) (before : List Label) where
     }
 
 pub is_turn : OpeningIsTurn
-is_turn t law s room before memory queue rank o big = opened_turn t law s before memory queue rank room o big
+is_turn t law s room before memory queue rank o big = opened_turn law o big
 
 -- before the first row
 pub opening_start : (t : Table) (s : ℕ) (memory : List Label) (board : List BoardEntry) (queue : List LabelEntry) → board ≡ map (board_entry t) (firsts t s) → queue ≡ [] → memory_needed t s ≤ length memory → Opening t s memory memory board queue 0
@@ -148,7 +154,3 @@ opening_start t s memory board queue b q l = record {
   same_length = refl;
   later = refl;
 }
-
--- the memory as it is when the loop begins
-pub begin_anew : (t : Table) (s room : ℕ) (before memory : List Label) (queue : List LabelEntry) (written : ℕ) → Turn t s room before memory queue written → Turn t s room memory memory queue written
-begin_anew t s room before memory queue written u = record { done = u.done; state = u.state; holds = u.holds; count = u.count; put = u.put; fits = u.fits; long = u.long; heads = u.heads; same_length = refl; later = refl }

@@ -4,6 +4,7 @@ use Rattle.timetable.specs.declared.label.Label.{Label}
 use Rattle.timetable.specs.Table.{Table, at, stations}
 use Rattle.timetable.specs.Labels.{leaves, firsts, firsts_below, ranks, rank_connection, places}
 use Rattle.timetable.specs.Rows.{blank, head, entry as cell}
+use Rattle.queue.specs.declared.interface.Queue.{Ghosts}
 use Rattle.entries.specs.declared.board.BoardEntry.{BoardEntry}
 use Rattle.entries.specs.declared.label.LabelEntry.{LabelEntry}
 use Rattle.entries.specs.Kinds.{label_ahead}
@@ -22,10 +23,10 @@ abbrev pub departure_by : Table → ℕ → ℕ → List BoardEntry
 departure_by t s c = cond (leaves t s c) (board_entry t c ∷ []) []
 
 -- a board that holds the first departures from s among the connections below k
-pub record Boarded {Q : Type 0} (ordered : Q → Type 0) (bag : Q → List BoardEntry) (room : Q → ℕ) (t : Table) (s k : ℕ) (q q' : Q) : Type 0 where
-  pub in_order : ordered q'
-  pub same_room : room q' ≡ room q
-  pub holds : bag q' ≡ map (board_entry t) (firsts_below t s k)
+pub record Boarded {Q : Type 0} (queue : Ghosts Q BoardEntry) (t : Table) (s k : ℕ) (q q' : Q) : Type 0 where
+  pub in_order : queue.ordered q'
+  pub same_room : queue.room q' ≡ queue.room q
+  pub holds : queue.bag q' ≡ map (board_entry t) (firsts_below t s k)
 
 -- the first ride of rank i
 abbrev pub opening_at : Table → ℕ → ℕ → List Entry

@@ -1,6 +1,7 @@
 -- What puts leave in a queue.
-use Rattle.std.specs.Prelude.{◌≡◌, ℕ, Bool, List, [], ◌∷◌, Some, None, Option}
+use Rattle.std.specs.Prelude.{◌≡◌, ℕ, ◌+◌, ◌≤◌, Bool, List, [], ◌∷◌, length, Some, None, Option}
 use Rattle.queue.specs.Order.{inserted}
+use Rattle.queue.specs.declared.interface.Queue.{Ghosts}
 
 module _ {X : Type 0} where
   -- a list in order, with entries put into it
@@ -13,8 +14,14 @@ module _ {X : Type 0} where
   those None = []
   those (Some x) = x ∷ []
 
--- the entries es, and nothing else, have been put into the queue q, which is now q'
-pub record Grown {X Q : Type 0} (ahead : X → X → Bool) (ordered : Q → Type 0) (bag : Q → List X) (room : Q → ℕ) (es : List X) (q q' : Q) : Type 0 where
-  pub in_order : ordered q'
-  pub same_room : room q' ≡ room q
-  pub holds : bag q' ≡ put_all ahead es (bag q)
+module _ {X Q : Type 0} (queue : Ghosts Q X) where
+  -- the queue q is in order and has room for n more entries
+  pub record Ready (n : ℕ) (q : Q) : Type 0 where
+    pub in_order : queue.ordered q
+    pub has_room : n + length (queue.bag q) ≤ queue.room q
+
+  -- the entries es, and nothing else, have been put into the queue q, which is now q'
+  pub record Grown (ahead : X → X → Bool) (es : List X) (q q' : Q) : Type 0 where
+    pub in_order : queue.ordered q'
+    pub same_room : queue.room q' ≡ queue.room q
+    pub holds : queue.bag q' ≡ put_all ahead es (queue.bag q)

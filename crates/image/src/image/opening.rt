@@ -1,44 +1,47 @@
 //! Opening an image.
 
-ghost use Rattle.std.specs.Prelude.{◌≡◌, Some, None, Ok, Err, MatchResult};
-ghost use Rattle.image.specs.Format.{opened, fault};
+ghost use Rattle.std.specs.Prelude.{◌≡◌, Err, MatchResult};
+ghost use Rattle.image.specs.Format.{opened, fault, Tells};
 ghost use Rattle.image.specs.Promises.{Opens};
 ghost use Rattle.image.specs.Reader.{means};
 
 use super::Image;
-use crate::header::{check_front, check_length, check_limits};
-use crate::records::check_records;
-use crate::transfers::check_transfers;
+use crate::body::Body;
+use crate::header::Header;
 use refusals::Refusal;
 
 /// The first thing that is wrong with the bytes.
 fn check(bytes: &[u8]) -> Result<(), Refusal>
-    ensures { MatchResult result (λ _. fault bytes.now ≡ None) (λ e. fault bytes.now ≡ Some e) }
+    ensures { Tells (fault bytes.now) result }
 {
-    check_front(bytes)?;
-    check_limits(bytes)?;
-    check_length(bytes)?;
-    check_transfers(bytes)?;
-    check_records(bytes)
+    let header = Header::new(bytes)?;
+    header.check_limits()?;
+    let body = Body::new(&header)?;
+    body.check_transfers()?;
+    body.check_records()
+}
+
+/// A reader of the bytes, if they are an image: then the timetable is lawful, and written out it gives these bytes
+/// again. Refused: what is wrong with them first. Takes one pass over the bytes.
+impl<'a> TryFrom<&'a [u8]> for Image<'a> {
+    type Error = Refusal;
+
+    ghost try_from_gives = { λ bytes r. MatchResult r (λ x. Opens bytes.now (means x)) (λ e. opened bytes.now ≡ Err e) };
+
+    #[tactic(auto, using(crate::proofs::Sound::lawful))]
+    fn try_from(bytes: &'a [u8]) -> Result<Image<'a>, Refusal> {
+        check(bytes)?;
+        Ok(Image { bytes })
+    }
 }
 
 impl<'a> Image<'a> {
-    /// Reads the bytes from now on, if nothing is wrong with them.
-    #[tactic(auto, using(crate::proofs::Sound::lawful))]
-    fn fill(&mut self, bytes: &'a [u8]) -> Result<(), Refusal>
-        ensures { MatchResult result (λ _. opened bytes.now ≡ Ok (means self.new)) (λ e. (opened bytes.now ≡ Err e) × (self.new ≡ self.old)) }
-    {
-        check(bytes)?;
-        self.bytes = bytes;
-        Ok(())
-    }
-
-    /// Reads the bytes from now on, if they are an image: then the timetable is lawful, and written out it gives
-    /// these bytes again. Refused: what is wrong with them first, and the reader is as it was. Takes one pass over
-    /// the bytes.
+    /// Reads the bytes from now on, if they are an image, as `try_from` does. Refused: what is wrong with them first,
+    /// and the reader is as it was.
     pub fn open(&mut self, bytes: &'a [u8]) -> Result<(), Refusal>
         ensures { MatchResult result (λ _. Opens bytes.now (means self.new)) (λ e. (opened bytes.now ≡ Err e) × (self.new ≡ self.old)) }
     {
-        self.fill(bytes)
+        *self = Image::try_from(bytes)?;
+        Ok(())
     }
 }

@@ -4,10 +4,7 @@ ghost use Rattle.std.specs.Prelude.{◌≡◌};
 ghost use Rattle.image.specs.Reader.{means};
 
 use super::Image;
-use crate::header::{connections_of, period_of, stations_of, trains_of};
-use crate::layout::{record_place, transfer_place};
-use crate::records::connection_at;
-use crate::words::word;
+use crate::body::Body;
 use refusals::Refusal;
 use timetable::{Connection, ConnectionNo, Means, Station, Timetable};
 
@@ -17,35 +14,43 @@ impl Means for Image<'_> {
     ghost lawful = { λ x. x.lawful };
 }
 
+impl<'a> Image<'a> {
+    /// The bytes, which have the length of an image.
+    fn body(&self) -> Body<'a>
+        ensures { result.bytes.now ≡ self.now.bytes.now }
+    {
+        Body { bytes: self.bytes }
+    }
+}
+
 impl Timetable for Image<'_> {
     fn period(&self) -> u16 {
-        period_of(self.bytes)
+        self.body().header().period()
     }
 
     fn stations(&self) -> u16 {
-        stations_of(self.bytes)
+        self.body().header().stations()
     }
 
     fn trains(&self) -> u16 {
-        trains_of(self.bytes)
+        self.body().header().trains()
     }
 
     fn connections(&self) -> u16 {
-        connections_of(self.bytes)
+        self.body().header().connections()
     }
 
     fn transfer(&self, station: Station) -> Result<u16, Refusal> {
         if station.0 >= self.stations() {
             return Err(Refusal::NoStation(station.0));
         }
-        Ok(word(self.bytes, transfer_place(station.0)))
+        Ok(self.body().transfer(station.0))
     }
 
     fn connection(&self, number: ConnectionNo) -> Result<Connection, Refusal> {
         if number.0 >= self.connections() {
             return Err(Refusal::NoConnection(number.0));
         }
-        let at = record_place(self.stations(), number.0);
-        Ok(connection_at(self.bytes, at))
+        Ok(self.body().record(number.0).into())
     }
 }

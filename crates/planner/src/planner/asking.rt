@@ -2,38 +2,30 @@
 
 ghost use Rattle.std.specs.Prelude.{◌≡◌, Some, None, Err, MatchOption, MatchResult};
 ghost use Rattle.refusals.specs.declared.refusal.Refusal.TheVariants.{NoSearch};
-ghost use Rattle.timetable.specs.Noticed.{noticed};
-ghost use Rattle.notices.specs.Slots.{found};
 ghost use Rattle.answers.specs.Promises.{Arrived, Profiled, Journeyed};
-ghost use Rattle.law.specs.Agreement.{ArriveLaw, ProfileLaw, JourneyLaw};
+ghost use Rattle.planner.specs.InForce.{in_force};
+ghost use Rattle.planner.specs.Laws.{ArriveLaw, ProfileLaw, JourneyLaw};
 
 use crate::planner::Planner;
 use questions::{Standing, arrive, journey, profile};
 use refusals::Refusal;
 use timetable::{Label, Leg, Pair, Station, Timetable};
 
+// The three questions differ in what they ask and promise, and each passes on to its own in two lines.
 impl<T: Timetable> Planner<T> {
     /// The standing search. Refused: `NoSearch` where none stands.
     fn standing_search(&self) -> Result<Standing, Refusal>
         ensures { MatchResult result (λ x. self.now.standing ≡ Some x) (λ e. (self.now.standing ≡ None) × (e ≡ NoSearch)) }
     {
-        match self.standing {
-            Some(standing) => Ok(standing),
-            None => Err(Refusal::NoSearch),
-        }
+        self.standing.ok_or(Refusal::NoSearch)
     }
 
-    /// Departure and arrival of the first unbeaten pair that departs at the minute or later, which may be in the next period.
+    /// The first unbeaten pair that departs at the minute or later, which may be in the next period.
     /// Refused: `NoSearch`, `NoTarget`, `TargetIsSource`, `MinuteLimit`, `ShortRows`, `ForeignRows`, `Unreachable`, in this
     /// order.
-    pub fn arrive(
-        &self,
-        memory: &[Label],
-        target: Station,
-        minute: u32,
-    ) -> Result<(u32, u32), Refusal>
-        ensures answer { MatchOption self.now.standing (result ≡ Err NoSearch) (λ x. Arrived (noticed (T.Means.meaning self.now.notices.below) (found self.now.notices.table.slots)) x.source.0 x.rows memory.now target.0 minute result) }
-        ensures law { ArriveLaw (T.Means.meaning self.now.notices.below) self.now.notices.table.slots self.now.standing memory.now target.0 minute result }
+    pub fn arrive(&self, memory: &[Label], target: Station, minute: u32) -> Result<Pair, Refusal>
+        ensures answer { MatchOption self.now.standing (result ≡ Err NoSearch) (λ x. Arrived (in_force T.Means.meaning self.now) x.source.0 x.rows memory.now target.0 minute result) }
+        ensures law { ArriveLaw T.Means.meaning self.now memory.now target.0 minute result }
     {
         let standing = self.standing_search()?;
         arrive(&self.notices, standing, memory, target, minute)
@@ -48,8 +40,8 @@ impl<T: Timetable> Planner<T> {
         target: Station,
         out: &mut [Pair],
     ) -> Result<usize, Refusal>
-        ensures answer { MatchOption self.now.standing ((result ≡ Err NoSearch) × (out.new ≡ out.old)) (λ x. Profiled (noticed (T.Means.meaning self.now.notices.below) (found self.now.notices.table.slots)) x.source.0 x.rows memory.now target.0 out.old result out.new) }
-        ensures law { ProfileLaw (T.Means.meaning self.now.notices.below) self.now.notices.table.slots self.now.standing memory.now target.0 out.old result out.new }
+        ensures answer { MatchOption self.now.standing ((result ≡ Err NoSearch) × (out.new ≡ out.old)) (λ x. Profiled (in_force T.Means.meaning self.now) x.source.0 x.rows memory.now target.0 out.old result out.new) }
+        ensures law { ProfileLaw T.Means.meaning self.now memory.now target.0 out.old result out.new }
     {
         let standing = self.standing_search()?;
         profile(&self.notices, standing, memory, target, out)
@@ -64,8 +56,8 @@ impl<T: Timetable> Planner<T> {
         minute: u32,
         out: &mut [Leg],
     ) -> Result<usize, Refusal>
-        ensures answer { MatchOption self.now.standing ((result ≡ Err NoSearch) × (out.new ≡ out.old)) (λ x. Journeyed (noticed (T.Means.meaning self.now.notices.below) (found self.now.notices.table.slots)) x.source.0 x.rows memory.now target.0 minute out.old result out.new) }
-        ensures law { JourneyLaw (T.Means.meaning self.now.notices.below) self.now.notices.table.slots self.now.standing memory.now target.0 minute out.old result out.new }
+        ensures answer { MatchOption self.now.standing ((result ≡ Err NoSearch) × (out.new ≡ out.old)) (λ x. Journeyed (in_force T.Means.meaning self.now) x.source.0 x.rows memory.now target.0 minute out.old result out.new) }
+        ensures law { JourneyLaw T.Means.meaning self.now memory.now target.0 minute out.old result out.new }
     {
         let standing = self.standing_search()?;
         journey(&self.notices, standing, memory, target, minute, out)

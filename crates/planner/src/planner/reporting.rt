@@ -1,16 +1,19 @@
 //! What is reported of trains.
 
-ghost use Rattle.std.specs.Prelude.{◌≡◌, Some, None, MatchResult};
-ghost use Rattle.timetable.specs.declared.report.Report.TheVariants.{Nothing, Cancelled, Late};
-ghost use Rattle.notices.specs.Refused.{report_refusal, lift_refusal};
-ghost use Rattle.notices.specs.Slots.{found, used, Entered};
-ghost use Rattle.law.specs.Agreement.{ReportLaw, LiftLaw};
+ghost use Rattle.std.specs.Prelude.{◌≡◌, Some, None};
+ghost use Rattle.timetable.specs.declared.report.Report.TheVariants.{Cancelled, Late};
+ghost use Rattle.notices.specs.Layer.{ReportAnswered, LiftAnswered};
+ghost use Rattle.planner.specs.Laws.{ReportLaw, LiftLaw};
+ghost use Rattle.planner.specs.Reporting.{EndsSearch};
 
 use crate::planner::Planner;
 use refusals::Refusal;
 use timetable::{Timetable, Train};
 
 impl<T: Timetable> Planner<T> {
+    // The calls below pass a refusal on by `?` and then end the search. With a closure under `map` that ends it, what the call
+    // leaves of the planner stays open (`returns`), and a helper that takes the layer's answer would be no shorter.
+
     /// Ends the standing search: the timetable that its rows are of is no longer in force.
     fn end_search(&mut self)
         ensures notices { self.new.notices ≡ self.old.notices }
@@ -22,8 +25,9 @@ impl<T: Timetable> Planner<T> {
     /// Reports that a train does not run. Refused, and then nothing is changed: `NoTrain`, `FullNotices`.
     pub fn cancel(&mut self, train: Train) -> Result<(), Refusal>
         ensures below { self.new.notices.below ≡ self.old.notices.below }
-        ensures answer { MatchResult result (λ _. (report_refusal (T.Means.meaning self.old.notices.below).trains (used self.old.notices.table.slots) (found self.old.notices.table.slots train.0) train.0 Cancelled ≡ None) × Entered self.old.notices.table.slots self.new.notices.table.slots train.0 Cancelled × (self.new.standing ≡ None)) (λ e. (report_refusal (T.Means.meaning self.old.notices.below).trains (used self.old.notices.table.slots) (found self.old.notices.table.slots train.0) train.0 Cancelled ≡ Some e) × (self.new ≡ self.old)) }
-        ensures law { ReportLaw (T.Means.meaning self.old.notices.below) train.0 Cancelled self.old.notices.table.slots self.old.standing result self.new.notices.table.slots self.new.standing }
+        ensures answer { ReportAnswered (T.Means.meaning self.old.notices.below).trains self.old.notices self.new.notices train.0 (Some Cancelled) result }
+        ensures search { EndsSearch self.old self.new result }
+        ensures law { ReportLaw T.Means.meaning train.0 (Some Cancelled) self.old result self.new }
     {
         self.notices.cancel(train)?;
         self.end_search();
@@ -34,8 +38,9 @@ impl<T: Timetable> Planner<T> {
     /// `FullNotices`.
     pub fn late(&mut self, train: Train, delay: u16) -> Result<(), Refusal>
         ensures below { self.new.notices.below ≡ self.old.notices.below }
-        ensures answer { MatchResult result (λ _. (report_refusal (T.Means.meaning self.old.notices.below).trains (used self.old.notices.table.slots) (found self.old.notices.table.slots train.0) train.0 (Late delay) ≡ None) × Entered self.old.notices.table.slots self.new.notices.table.slots train.0 (Late delay) × (self.new.standing ≡ None)) (λ e. (report_refusal (T.Means.meaning self.old.notices.below).trains (used self.old.notices.table.slots) (found self.old.notices.table.slots train.0) train.0 (Late delay) ≡ Some e) × (self.new ≡ self.old)) }
-        ensures law { ReportLaw (T.Means.meaning self.old.notices.below) train.0 (Late delay) self.old.notices.table.slots self.old.standing result self.new.notices.table.slots self.new.standing }
+        ensures answer { ReportAnswered (T.Means.meaning self.old.notices.below).trains self.old.notices self.new.notices train.0 (Some (Late delay)) result }
+        ensures search { EndsSearch self.old self.new result }
+        ensures law { ReportLaw T.Means.meaning train.0 (Some (Late delay)) self.old result self.new }
     {
         self.notices.late(train, delay)?;
         self.end_search();
@@ -45,8 +50,9 @@ impl<T: Timetable> Planner<T> {
     /// Takes back what is reported of a train. Refused, and then nothing is changed: `NoTrain`, `NothingToLift`.
     pub fn lift(&mut self, train: Train) -> Result<(), Refusal>
         ensures below { self.new.notices.below ≡ self.old.notices.below }
-        ensures answer { MatchResult result (λ _. (lift_refusal (T.Means.meaning self.old.notices.below).trains (found self.old.notices.table.slots train.0) train.0 ≡ None) × Entered self.old.notices.table.slots self.new.notices.table.slots train.0 Nothing × (self.new.standing ≡ None)) (λ e. (lift_refusal (T.Means.meaning self.old.notices.below).trains (found self.old.notices.table.slots train.0) train.0 ≡ Some e) × (self.new ≡ self.old)) }
-        ensures law { LiftLaw (T.Means.meaning self.old.notices.below) train.0 self.old.notices.table.slots self.old.standing result self.new.notices.table.slots self.new.standing }
+        ensures answer { LiftAnswered (T.Means.meaning self.old.notices.below).trains self.old.notices self.new.notices train.0 result }
+        ensures search { EndsSearch self.old self.new result }
+        ensures law { LiftLaw T.Means.meaning train.0 self.old result self.new }
     {
         self.notices.lift(train)?;
         self.end_search();

@@ -1,11 +1,9 @@
 //! The search over the timetable in force.
 
-ghost use Rattle.std.specs.Prelude.{◌≡◌, min, length, Some, None, MatchResult};
-ghost use Rattle.timetable.specs.Noticed.{noticed};
-ghost use Rattle.notices.specs.Slots.{found};
-ghost use Rattle.search.specs.Answer.{Searched, Emptied};
-ghost use Rattle.search.specs.Sizes.{search_refusal};
-ghost use Rattle.law.specs.Agreement.{SearchLaw};
+ghost use Rattle.std.specs.Prelude.{◌≡◌, min, Some, MatchResult};
+ghost use Rattle.search.specs.Answer.{SearchAnswered, Returned};
+ghost use Rattle.planner.specs.InForce.{in_force};
+ghost use Rattle.planner.specs.Laws.{SearchLaw};
 
 use crate::planner::Planner;
 use entries::{BoardEntry, LabelEntry};
@@ -15,6 +13,7 @@ use refusals::Refusal;
 use search::{Found, Limits, search_within};
 use timetable::{Label, Station, Timetable};
 
+// Board and label queue are two parameters: each has its own clause, and `search` of the crate below takes them one by one.
 impl<T: Timetable> Planner<T> {
     /// Searches from a source, and writes the rows to the label memory. From then on this search stands.
     ///
@@ -27,16 +26,13 @@ impl<T: Timetable> Planner<T> {
         memory: &mut [Label],
     ) -> Result<Found, Refusal>
         ensures notices { self.new.notices ≡ self.old.notices }
-        ensures answer { MatchResult result (λ f. (search_refusal (noticed (T.Means.meaning self.old.notices.below) (found self.old.notices.table.slots)) source.0 (B.Queue.room board.old) (L.Queue.room labels.old) (length memory.old) ≡ None) × Searched (noticed (T.Means.meaning self.old.notices.below) (found self.old.notices.table.slots)) source.0 memory.old memory.new f × (self.new.standing ≡ Some (record { source = source; rows = f.departures }))) (λ e. (search_refusal (noticed (T.Means.meaning self.old.notices.below) (found self.old.notices.table.slots)) source.0 (B.Queue.room board.old) (L.Queue.room labels.old) (length memory.old) ≡ Some e) × (self.new ≡ self.old) × (memory.new ≡ memory.old)) }
-        ensures board { MatchResult result (λ _. Emptied B.Queue.ordered B.Queue.bag B.Queue.room board.old board.new) (λ _. board.new ≡ board.old) }
-        ensures labels { MatchResult result (λ _. Emptied L.Queue.ordered L.Queue.bag L.Queue.room labels.old labels.new) (λ _. labels.new ≡ labels.old) }
-        ensures law { SearchLaw (T.Means.meaning self.old.notices.below) source.0 (B.Queue.room board.old) (L.Queue.room labels.old) self.old.notices.table.slots self.old.standing memory.old result self.new.notices.table.slots self.new.standing memory.new }
+        ensures answer { SearchAnswered (in_force T.Means.meaning self.old) source.0 (B.Queue.room board.old) (L.Queue.room labels.old) memory.old result memory.new }
+        ensures standing { MatchResult result (λ f. self.new.standing ≡ Some (record { source = source; rows = f.departures })) (λ _. self.new ≡ self.old) }
+        ensures board { Returned B.Queue result board.old board.new }
+        ensures labels { Returned L.Queue result labels.old labels.new }
+        ensures law { SearchLaw T.Means.meaning source.0 (B.Queue.room board.old) (L.Queue.room labels.old) self.old memory.old result self.new memory.new }
     {
-        let limits = Limits {
-            board: board.capacity(),
-            labels: labels.capacity(),
-        };
-        self.search_within(source, limits, board, labels, memory)
+        self.search_within(source, Limits::of(board, labels), board, labels, memory)
     }
 
     /// The same, with no more entries of each queue than the limits say: its capacity counts up to its limit.
@@ -49,10 +45,11 @@ impl<T: Timetable> Planner<T> {
         memory: &mut [Label],
     ) -> Result<Found, Refusal>
         ensures notices { self.new.notices ≡ self.old.notices }
-        ensures answer { MatchResult result (λ f. (search_refusal (noticed (T.Means.meaning self.old.notices.below) (found self.old.notices.table.slots)) source.0 (min limits.board (B.Queue.room board.old)) (min limits.labels (L.Queue.room labels.old)) (length memory.old) ≡ None) × Searched (noticed (T.Means.meaning self.old.notices.below) (found self.old.notices.table.slots)) source.0 memory.old memory.new f × (self.new.standing ≡ Some (record { source = source; rows = f.departures }))) (λ e. (search_refusal (noticed (T.Means.meaning self.old.notices.below) (found self.old.notices.table.slots)) source.0 (min limits.board (B.Queue.room board.old)) (min limits.labels (L.Queue.room labels.old)) (length memory.old) ≡ Some e) × (self.new ≡ self.old) × (memory.new ≡ memory.old)) }
-        ensures board { MatchResult result (λ _. Emptied B.Queue.ordered B.Queue.bag B.Queue.room board.old board.new) (λ _. board.new ≡ board.old) }
-        ensures labels { MatchResult result (λ _. Emptied L.Queue.ordered L.Queue.bag L.Queue.room labels.old labels.new) (λ _. labels.new ≡ labels.old) }
-        ensures law { SearchLaw (T.Means.meaning self.old.notices.below) source.0 (min limits.board (B.Queue.room board.old)) (min limits.labels (L.Queue.room labels.old)) self.old.notices.table.slots self.old.standing memory.old result self.new.notices.table.slots self.new.standing memory.new }
+        ensures answer { SearchAnswered (in_force T.Means.meaning self.old) source.0 (min limits.board (B.Queue.room board.old)) (min limits.labels (L.Queue.room labels.old)) memory.old result memory.new }
+        ensures standing { MatchResult result (λ f. self.new.standing ≡ Some (record { source = source; rows = f.departures })) (λ _. self.new ≡ self.old) }
+        ensures board { Returned B.Queue result board.old board.new }
+        ensures labels { Returned L.Queue result labels.old labels.new }
+        ensures law { SearchLaw T.Means.meaning source.0 (min limits.board (B.Queue.room board.old)) (min limits.labels (L.Queue.room labels.old)) self.old memory.old result self.new memory.new }
     {
         let found = search_within(&self.notices, source, limits, board, labels, memory)?;
         let standing = Standing {

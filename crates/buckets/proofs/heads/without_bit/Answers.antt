@@ -1,6 +1,6 @@
-use Rattle.std.proofs.Common.{refl}
-use Rattle.buckets.proofs.Bits.{off_here, off_else}
+use Rattle.std.proofs.Common.{w64}
+use Rattle.std.proofs.lemmas.Nat.Bits.{bit_at_clear_same, bit_at_clear_other}
 use Rattle.buckets.proofs.heads.without_bit.Goals as goal
 
 pub returns : goal.returns
-returns c = record { here = off_here c.args.word c.args.k _ c.requires refl; others = off_else c.args.word c.args.k _ c.requires refl }
+returns c = record { here = bit_at_clear_same w64 c.args.word c.args.k c.requires; others = bit_at_clear_other w64 c.args.word c.args.k c.requires }

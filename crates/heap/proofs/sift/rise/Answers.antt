@@ -20,16 +20,13 @@ loop-at-preserved g c =
       λ h. rise_step o l j u e x (omega arith) jn c.index-cells-up.is (sym c.if-not-is_ahead.ensures) (c.loop-at.invariant.2 h),
     )
 
-pub returns : goal.returns
-returns g c =
+pub returns-clause-heaped : goal.returns-clause-heaped
+returns-clause-heaped g c = λ h.
     let o = g.met.E.Entry.sound in
     let l = c.loop-at.cells in
     let j = c.loop-at.at in
     let e = c.args.e in
-    record {
-      bag = c.loop-at.invariant.1;
-      heaped = λ h. elim c.loop-at-test.branch [
-        | else-loop-at-test w ↦ rise_tops o (set l j e) j (omega arith) (c.loop-at.invariant.2 h)
-        | then-loop-at-test+then-not-is_ahead w ↦ rise_rests o l j ((j - 1) / 2) e w.index-cells-up.result (let some : 0 < j = w.loop-at-test.true in omega arith) c.loop-at.invariant.0 w.index-cells-up.is (sym w.if-not-is_ahead.ensures) (c.loop-at.invariant.2 h)
-      ];
-    }
+    elim c.loop-at-test.branch [
+      | else-loop-at-test w ↦ rise_tops o (set l j e) j (omega arith) (c.loop-at.invariant.2 h)
+      | then-loop-at-test+then-not-is_ahead w ↦ rise_rests o l j ((j - 1) / 2) e w.index-cells-up.result (let some : 0 < j = w.loop-at-test.true in omega arith) c.loop-at.invariant.0 w.index-cells-up.is (sym w.if-not-is_ahead.ensures) (c.loop-at.invariant.2 h)
+    ]

@@ -1,8 +1,5 @@
 use Rattle.answers.proofs.Seen.{journey_searched}
 use Rattle.questions.proofs.tracing.journey.Goals as goal
 
-pub returns : goal.returns
-returns g c = record {
-  answer = c.answer.ensures;
-  searched = λ rows all. journey_searched (g.T.Means.meaning c.args.t.now) (g.T.Means.lawful c.args.t.now) c.args.standing.source.0 c.args.standing.rows c.args.target.0 c.args.memory.now rows all c.args.minute c.args.out.now c.answer.new.out c.answer.result c.answer.ensures;
-}
+pub returns-clause-searched : goal.returns-clause-searched
+returns-clause-searched g c = λ rows all. journey_searched (g.T.Means.meaning c.args.t.now) (g.T.Means.lawful c.args.t.now) c.args.standing.source.0 c.args.standing.rows c.args.target.0 c.args.memory.now rows all c.args.minute c.args.out.now c.journey.new.out c.journey.result c.journey.ensures

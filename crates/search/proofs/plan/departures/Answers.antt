@@ -1,28 +1,11 @@
-use Rattle.std.proofs.Common.{◌≡◌, ℕ, length, Option, refl, ap, arith}
-use Rattle.timetable.specs.Table.{connections}
-use Rattle.timetable.specs.Labels.{firsts_below}
-use Rattle.entries.specs.declared.board.BoardEntry.{BoardEntry}
-use Rattle.turns.specs.Puts.{those}
-use Rattle.turns.proofs.Departures.{departure_length}
+use Rattle.std.proofs.Common.{ℕ, length, ap, ◌∙◌, rules, tests, arith}
+use Rattle.std.proofs.lemmas.Iterator.{YieldsList-from_range}
+use Rattle.std.proofs.lemmas.Iterator.Consumers.{YieldsList-from_filter, count_from_yields_List}
+use Rattle.timetable.specs.Labels.{leaves, firsts_below}
+use Rattle.turns.proofs.Departures.{tested_all}
 use Rattle.search.proofs.plan.departures.Goals as goal
-use Rattle.search.proofs.plan.departures.Goals.{in-Some, in_default}
-
-pub loop-c-init : goal.loop-c-init
-unfolding firsts_below
-loop-c-init g c = (refl, omega arith)
 
 pub returns : goal.returns
 returns g c =
     let t = g.T.Means.meaning c.args.t.now in
-    let e : c.loop-c.c ≡ connections t = omega (arith, c.connections-c-end.ensures) in
-    omega (arith, c.loop-c.invariant.0, ap (λ (k : ℕ). length (firsts_below t c.args.source.0 k)) e)
-
-pub loop-c-preserved : goal.loop-c-preserved
-loop-c-preserved g c =
-    let t = g.T.Means.meaning c.args.t.now in
-    let base = departure_length t c.args.source.0 c.loop-c.c in
-    let e = ap length c.departure_of.ensures in
-    elim c.match-departure_of.branch [
-      | in-Some w ↦ (let z : length (those c.departure_of.result) ≡ 1 = ap (λ (r : Option BoardEntry). length (those r)) w.in-Some.is in (omega (arith, w.n-is, c.loop-c.invariant.0), omega (arith, w.n-is, c.loop-c.invariant.1)))
-      | in_default w ↦ (let z : length (those c.departure_of.result) ≡ 0 = ap (λ (r : Option BoardEntry). length (those r)) w.in_default.is in (omega (arith, w.n-is, c.loop-c.invariant.0), omega (arith, w.n-is, c.loop-c.invariant.1)))
-    ]
+    count_from_yields_List _ _ c.count.ensures.ran (YieldsList-from_filter _ (leaves t c.args.source.0) (YieldsList-from_range 0 c.connections.result c.connections.result c.filter.ensures.source (omega arith)) c.filter.ensures.closure (λ x r q k. search (rules, tests))) ∙ tested_all t c.args.source.0 c.connections.result ∙ ap (λ (k : ℕ). length (firsts_below t c.args.source.0 k)) c.connections.ensures

@@ -11,5 +11,5 @@ placed ahead bag room e q q' (Ok _) h k = h.1
 placed ahead bag room e q q' (Err x) h k = absurd (omega (arith, h.1))
 
 pub returns : goal.returns
-returns g c = grown_one g.E.Entry.ahead g.Q.Queue.ordered g.Q.Queue.bag g.Q.Queue.room c.args.e c.args.q.now c.put.new.self (c.put.ensures.ordered c.requires.ordered) c.put.ensures.room
-    (placed g.E.Entry.ahead g.Q.Queue.bag g.Q.Queue.room c.args.e c.args.q.now c.put.new.self c.put.result (c.put.ensures.placed c.requires.ordered) c.requires.fits)
+returns g c = grown_one g.E.Entry.ahead (c.put.ensures.ordered c.requires.in_order) c.put.ensures.room
+    (placed g.E.Entry.ahead g.Q.Queue.bag g.Q.Queue.room c.args.e c.args.q.now c.put.new.self c.put.result (c.put.ensures.placed c.requires.in_order) (omega (arith, c.requires.has_room)))

@@ -8,15 +8,11 @@ use Rattle.queue.proofs.Bag.{length-sorted}
 use Rattle.heap.proofs.Ends.{front_length, front_is, put_rising, put_bag}
 use Rattle.heap.proofs.heap.HeapQueue.put.Goals as goal
 
-pub returns-in_err-check_room : goal.returns-in_err-check_room
-returns-in_err-check_room g c =
+pub returns-in_err-check_room-clause-placed : goal.returns-in_err-check_room-clause-placed
+returns-in_err-check_room-clause-placed g c = λ h.
     let told = c.in_err-check_room.ensures in
     let p = err_from_is_err_and c.from_residual.result c.from_residual.ensures.1 in
-    record {
-      room = refl;
-      ordered = λ h. h;
-      placed = λ h. rw (p.1, p.2) (told.1, length-sorted g.met.E.Entry.sound _ ∙ length-take-le _ _ h.0 ∙ omega (arith, h.0, told.0), refl);
-    }
+    rw (p.1, p.2) (told.1, length-sorted g.met.E.Entry.sound _ ∙ length-take-le _ _ h.0 ∙ omega (arith, h.0, told.0), refl)
 
 pub returns : goal.returns
 returns g c =

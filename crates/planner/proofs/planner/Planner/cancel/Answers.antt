@@ -1,20 +1,7 @@
-use Rattle.std.proofs.Common.{List, sym, ap, ◌∙◌, subst}
-use Rattle.timetable.specs.declared.report.Report.TheVariants.{Cancelled}
-use Rattle.notices.specs.declared.notice.Notice.{Notice}
-use Rattle.notices.specs.Slots.{Entered}
-use Rattle.law.proofs.Reports.{report_accepted}
+use Rattle.law.proofs.Reports.{report_law}
 use Rattle.planner.proofs.planner.Planner.cancel.Goals as goal
 
-pub returns : goal.returns
-returns g c =
-    let p = c.args.self.now in
-    let q = c.end_search.new.self in
-    let same = c.end_search.ensures.notices in
-    let none = c.end_search.ensures.standing in
+pub returns-clause-law : goal.returns-clause-law
+returns-clause-law g c =
     let h = c.in_ok-cancel.ensures.answer in
-    let e : Entered p.notices.table.slots q.notices.table.slots c.args.train.0 Cancelled = subst (λ (ns : List Notice). Entered p.notices.table.slots ns c.args.train.0 Cancelled) (ap (λ n. n.table.slots) (sym same)) h.1 in
-    record {
-      below = ap (λ n. n.below) same ∙ c.cancel.ensures.below;
-      answer = (h.0, e, none);
-      law = λ b memory a. report_accepted (g.T.Means.meaning p.notices.below) b p.notices.table.slots q.notices.table.slots p.standing memory c.args.train.0 a q.standing none Cancelled h.0 e;
-    }
+    rw c.end_search.ensures.notices (report_law _ _ _ _ _ _ c.end_search.ensures.standing _ h.0 h.1)

@@ -1,7 +1,0 @@
-use Rattle.std.proofs.Common.{◌≡◌, ◌≤◌, List, length}
-use Rattle.timetable.specs.declared.pair.Pair.{Pair}
-use Rattle.answers.specs.Rowwise.{Listed}
-use Rattle.questions.proofs.profiles.count.Given as goal
-
-abbrev pub invariant-loop-row : goal.invariant-loop-row
-invariant-loop-row l = ((ps : List Pair) × Listed l.view l.memory l.row ps × (l.pairs ≡ length ps)) × (l.pairs ≤ l.row)

@@ -13,6 +13,7 @@ pub(crate) struct Sizes {
     pub memory: usize,
 }
 
+// The sums are those by which a search refuses; it names them only where it refuses, and here they are asked for before.
 impl Sizes {
     /// As much as a search needs that has at most so many first departures.
     pub(crate) fn enough_for<T: Timetable>(t: &T, departures: usize) -> Sizes {

@@ -22,6 +22,7 @@ impl From<Make> for Queues {
     }
 }
 
+// A call is data, so what it needs is matched here and below.
 /// The most first departures that a search of a script can have with one make of queue. A report never has a connection run,
 /// so those of the timetable without reports are counted.
 fn most_departures<T: Timetable>(t: &T, script: &[Entry], make: Make) -> usize {

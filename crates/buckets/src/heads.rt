@@ -39,6 +39,7 @@ impl Heads {
         self.first[usize::from(b)]
     }
 
+    // The clause `others` stands at three functions, since each says it of its own change.
     /// Has the chain of the bucket b, which now holds an entry, begin at `at`.
     pub(crate) fn fill(&mut self, b: u8, at: usize)
         ensures first { self.new.first ≡ slice_set self.old.first b at }

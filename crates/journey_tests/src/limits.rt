@@ -6,6 +6,7 @@ use std::process::Abort;
 use std::test::Fail;
 use timetable::Timetable;
 
+// Tests of one shape stay apart: what is left of each is its own make, cells, numbers and name.
 fn unknown_source<T: Timetable>(rt: &impl Abort, t: &T) {
     let mut memory = [OLD; 30];
     assert_eq!(rt; told(by_heaps(t, 3, 0, 0, &mut memory)), Some((31, 3, 3)));

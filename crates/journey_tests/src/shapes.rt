@@ -77,6 +77,7 @@ fn alone(heap: Global) -> Result<Draft, AllocError> {
     )
 }
 
+// Tests of one shape stay apart: what is left of each is its own make, cells, numbers and name.
 fn one_leg<T: Timetable>(rt: &impl Abort, t: &T) -> Result<(), Fail> {
     let mut memory = [OLD; 6];
     assert_eq!(rt; by_heaps(t, 0, 1, 7, &mut memory)?, (1, 4));

@@ -58,6 +58,7 @@ pub fn over<F: FnOnce(&Image) -> Result<(), Fail>>(draft: &Draft, body: F) -> Re
     body(&Image::try_from(draft.bytes())?)
 }
 
+// The three below take what `search` takes, one by one.
 /// A search with queues that hold something before it: first departures and leading labels.
 fn by<T: Timetable, B: Queue<BoardEntry>, L: Queue<LabelEntry>>(
     t: &T,

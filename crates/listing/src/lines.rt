@@ -119,6 +119,7 @@ fn lines_below<F: Fn(u16) -> Result<String, AllocError>>(
     ensures { (f : ℕ → List ℕ) → ((i : ℕ) (r : _) → i < n → F.post lines i r → IfOk r (λ s. string_bytes s ≡ f i)) → IfOk result (λ s. string_bytes s ≡ lines_below f n) }
 {
     let mut text = String::new(heap);
+    // Over numbers: there is no slice to go over.
     for i in 0..n {
         text.push_str(lines(i)?.as_str())?;
     }

@@ -37,6 +37,7 @@ fn notices_over(bytes: &[u8]) -> Result<Notices<Image<'_>>, Refusal> {
     Ok(Notices::new(Image::try_from(bytes)?))
 }
 
+// Tests of one shape stay apart: what is left of each is its own make, cells, numbers and name.
 #[test]
 fn reports_change_connections(rt: HostRuntime) -> Result<(), Fail> {
     let a = example_a(rt.alloc())?;

@@ -57,6 +57,7 @@ impl Stops {
         };
         let connection = connection_at(t, number);
         let next = connection_at(t, next_number);
+        // by their numbers, since one is the other's plus one
         if next_number.0 != number.0 + 1 || next.train != connection.train || !next.runs {
             return false;
         }
@@ -83,6 +84,7 @@ impl Stops {
 /// Whether the label `from` gives the label `to`: by a ride's arrival, a stay or a change.
 // The search makes an entry of each, and this crate compares minutes: what they share is one sum each, so functions for both
 // would be no plainer.
+// A function for the change would be public, too, and need a `requires`.
 pub(crate) fn gives<T: Timetable>(t: &T, from: Stop, to: Stop) -> bool
     requires { to.minute ≤ 400000000 }
     ensures { MatchBool result (Gives (T.Means.meaning t.now) from.place from.minute to.place to.minute) (Gives (T.Means.meaning t.now) from.place from.minute to.place to.minute → ⊥) }

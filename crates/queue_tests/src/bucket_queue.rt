@@ -12,6 +12,8 @@ fn used<E: Entry>(entry: E) -> Cell<E> {
     }
 }
 
+// Each make has its own tests: a make borrows its cells, and a trait for it would need an associated type with a lifetime
+// parameter.
 #[test]
 fn hub(rt: HostRuntime) -> Result<(), Fail> {
     let mut cells = vec![in rt.alloc(); used(label(1, 2, 3, 4)); 4096]?;

@@ -3,6 +3,8 @@ use crate::model::board;
 use heap::Heap;
 use std::test::Fail;
 
+// Each make has its own tests: a make borrows its cells, and a trait for it would need an associated type with a lifetime
+// parameter.
 #[test]
 fn hub(rt: HostRuntime) -> Result<(), Fail> {
     let mut cells = vec![in rt.alloc(); label(1, 2, 3, 4); 4096]?;

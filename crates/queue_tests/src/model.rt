@@ -10,6 +10,7 @@ pub fn board(minute: u32, connection: u16) -> BoardEntry {
     }
 }
 
+// The key is the model's own, so that it does not rest on the order that it tests.
 /// Takes the first by minute and connection out of the list.
 pub fn take_first(list: &mut Vec<BoardEntry>) -> Option<BoardEntry> {
     let first = *list.iter().min_by_key(|e| (e.minute, e.connection.0))?;

@@ -37,6 +37,7 @@ impl<T: Timetable> Plan<'_, T> {
         requires none { B.Queue.bag board.old ≡ [] }
         ensures { let t = T.Means.meaning self.now.t.now in Boarded B.Queue t self.now.source.0 (connections t) board.old board.new }
     {
+        // A timetable answers by number: there is no slice to go over.
         for c in 0..self.t.connections() {
             add_some(board, self.departure(ConnectionNo(c)));
         }

@@ -113,6 +113,7 @@ impl<T: Timetable> Leading<'_, T> {
         requires { Ready L.Queue (length (leads (T.Means.meaning self.now.t.now) (seen self.now.label))) labels.old }
         ensures { Grown L.Queue label_ahead (map waiting (leads (T.Means.meaning self.now.t.now) (seen self.now.label))) labels.old labels.new }
     {
+        // A timetable answers by number: there is no slice to go over.
         for c in 0..self.t.connections() {
             self.lead_by(ConnectionNo(c), labels);
         }

@@ -1,6 +1,6 @@
 //! The table of 256 buckets: where the chain of each begins, and a bit for each, set exactly while it holds an entry.
 
-ghost use Rattle.std.specs.Prelude.{◌≡◌, ℕ, ◌+◌, ◌-◌, ◌<◌, length, set, replicate, if◌then◌else◌, MatchOption, ◌≢◌, nat_lt, slice_index, slice_set};
+ghost use Rattle.std.specs.Prelude.{◌≡◌, ℕ, ◌+◌, ◌-◌, ◌<◌, replicate, if◌then◌else◌, MatchOption, ◌≢◌, nat_lt, slice_index, slice_set};
 ghost use Rattle.std.specs.Int.{bit_at};
 ghost use Rattle.std.specs.Iterator.{at_most};
 ghost use Rattle.buckets.specs.Bitmap.{occupied, Clear, First};

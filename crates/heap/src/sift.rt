@@ -2,7 +2,7 @@
 //! that each entry on the way is written once. It moves along a path of the tree, so the loops go by that arithmetic
 //! and not over the slice.
 
-ghost use Rattle.std.specs.Prelude.{◌≡◌, ℕ, ◌+◌, ◌*◌, ◌<◌, ◌≤◌, length, slice_set};
+ghost use Rattle.std.specs.Prelude.{◌≡◌, ◌+◌, ◌*◌, ◌<◌, length, slice_set};
 ghost use Rattle.queue.specs.Order.{sorted};
 ghost use Rattle.heap.specs.Heaped.{Child, Heaped, Rising, Sinking, Best};
 

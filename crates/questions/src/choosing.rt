@@ -1,6 +1,6 @@
 //! Which rows' pairs are unbeaten.
 
-ghost use Rattle.std.specs.Prelude.{◌≡◌, ℕ, ◌<◌, ◌≤◌, MatchBool, MatchOption};
+ghost use Rattle.std.specs.Prelude.{ℕ, ◌<◌, ◌≤◌, MatchBool, MatchOption};
 ghost use Rattle.answers.specs.Rowwise.{Yields, ChosenRow, FirstFrom, NoneFrom, FirstPair};
 
 use crate::rows::LabelRows;

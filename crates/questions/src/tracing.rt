@@ -1,6 +1,6 @@
 //! Which trains does one take?
 
-ghost use Rattle.std.specs.Prelude.{◌≡◌, ◌+◌, ◌*◌, ◌<◌, ◌≤◌, true, false, List, ◌++◌, map, length, drop, if◌then◌else◌};
+ghost use Rattle.std.specs.Prelude.{◌≡◌, ◌+◌, ◌<◌, ◌≤◌, true, false, List, ◌++◌, map, length, drop, if◌then◌else◌};
 ghost use Rattle.timetable.specs.Labels.{ranks, places};
 ghost use Rattle.timetable.specs.Rows.{Rows};
 ghost use Rattle.journeys.specs.Search.{Entry};

@@ -126,6 +126,7 @@ impl<T: Timetable> Leading<'_, T> {
         requires ready { Ready L.Queue (length (leads (T.Means.meaning self.now.t.now) (seen self.now.label))) labels.old }
         ensures { Grown L.Queue label_ahead (map waiting (leads (T.Means.meaning self.now.t.now) (seen self.now.label))) labels.old labels.new }
     {
+        // `questions` takes a place apart likewise: each needs one line, so a function for both would be no shorter.
         match self.label.place.0.checked_sub(u32::from(self.t.stations())) {
             None => self.lead_all(labels),
             Some(number) => self.lead_by(ConnectionNo(number as u16), labels),

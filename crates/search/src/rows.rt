@@ -1,7 +1,7 @@
 //! Reading and writing the rows: row after row, each with its first departure and then an entry for each place.
 
 ghost use Rattle.std.specs.Prelude.{not, ◌≡◌, ◌+◌, ◌*◌, ◌<◌, ◌≤◌, length};
-ghost use Rattle.timetable.specs.Labels.{ranks, places as all_places};
+ghost use Rattle.timetable.specs.Labels.{ranks};
 ghost use Rattle.timetable.specs.Rows.{width, entry as cell};
 ghost use Rattle.turns.specs.Cells.{Settled, RowOpened};
 ghost use Rattle.turns.specs.Counts.{is_blank};

@@ -1,8 +1,8 @@
 //! The board: the first departures, in order.
 
-ghost use Rattle.std.specs.Prelude.{◌≡◌, []};
+ghost use Rattle.std.specs.Prelude.{◌≡◌, ◌&&◌, ◌==◌, []};
 ghost use Rattle.timetable.specs.Table.{connections};
-ghost use Rattle.timetable.specs.Labels.{leaves, ranks};
+ghost use Rattle.timetable.specs.Labels.{ranks};
 ghost use Rattle.turns.specs.Puts.{Ready, those};
 ghost use Rattle.turns.specs.Opening.{departure_by, Boarded};
 
@@ -10,13 +10,12 @@ use crate::plan::Plan;
 use crate::puts::add_some;
 use entries::BoardEntry;
 use queue::Queue;
-use timetable::{ConnectionNo, Means, Station, Timetable, connection_at};
+use timetable::{Connection, ConnectionNo, Means, Station, Timetable, connection_at};
 
-/// Whether a connection is a first departure: it runs and starts at the source.
-pub fn is_first<T: Timetable>(t: &T, source: Station, number: ConnectionNo) -> bool
-    ensures { result ≡ leaves (T.Means.meaning t.now) source.0 number.0 }
+/// Whether a connection is a first departure from the source: it runs and starts there.
+pub fn is_first(connection: Connection, source: Station) -> bool
+    ensures { result ≡ (connection.runs && connection.start.0 == source.0) }
 {
-    let connection = connection_at(t, number);
     connection.runs && connection.start == source
 }
 
@@ -25,8 +24,10 @@ impl<T: Timetable> Plan<'_, T> {
     fn departure(&self, number: ConnectionNo) -> Option<BoardEntry>
         ensures { those result ≡ departure_by (T.Means.meaning self.now.t.now) self.now.source.0 number.0 }
     {
-        is_first(self.t, self.source, number).then_some(BoardEntry {
-            minute: u32::from(connection_at(self.t, number).departure),
+        // Asked once: over notices an answer costs a look at every slot.
+        let connection = connection_at(self.t, number);
+        is_first(connection, self.source).then_some(BoardEntry {
+            minute: u32::from(connection.departure),
             connection: number,
         })
     }

@@ -7,7 +7,7 @@ ghost use Rattle.search.specs.Sizes.{search_refusal};
 
 use crate::board::is_first;
 use refusals::{Refusal, enough};
-use timetable::{ConnectionNo, Means, Station, Timetable, places};
+use timetable::{ConnectionNo, Means, Station, Timetable, connection_at, places};
 
 /// A search from a source over a timetable: how many places and how many first departures there are.
 #[derive(Drop)]
@@ -25,7 +25,7 @@ pub fn departures<T: Timetable>(t: &T, source: Station) -> usize
     ensures { result ≡ ranks (T.Means.meaning t.now) source.0 }
 {
     (0..t.connections())
-        .filter(|c| is_first(t, source, ConnectionNo(*c)))
+        .filter(|c| is_first(connection_at(t, ConnectionNo(*c)), source))
         .count()
 }
 

@@ -53,16 +53,37 @@ where
     }
 }
 
-/// The call of a line's words. It is no `FromStr`, since a line is split once, for calls and settings alike.
-fn call_of(words: &[&str]) -> Option<Call> {
-    Some(match *words {
-        ["cancel", train] => Call::Cancel(Train(number(train)?)),
-        ["late", train, delay] => Call::Late(Train(number(train)?), number(delay)?),
-        ["lift", train] => Call::Lift(Train(number(train)?)),
-        ["search", source] => Call::Search(Station(number(source)?)),
-        ["arrive", target, minute] => Call::Arrive(Station(number(target)?), number(minute)?),
-        ["profile", target] => Call::Profile(Station(number(target)?)),
-        ["journey", target, minute] => Call::Journey(Station(number(target)?), number(minute)?),
+/// Two numbers with a space between.
+fn numbers<M: FromStr, N: FromStr>(words: &str) -> Option<(M, N)>
+where
+    M: Drop,
+    M::Err: Drop,
+    N::Err: Drop,
+{
+    let (first, second) = words.split_once(' ')?;
+    Some((number(first)?, number(second)?))
+}
+
+/// The call of a line's first word and of the words behind it. It is no `FromStr`, since a line is split once, for calls and
+/// settings alike.
+fn call_of(name: &str, rest: &str) -> Option<Call> {
+    Some(match name {
+        "cancel" => Call::Cancel(Train(number(rest)?)),
+        "late" => {
+            let (train, delay) = numbers(rest)?;
+            Call::Late(Train(train), delay)
+        }
+        "lift" => Call::Lift(Train(number(rest)?)),
+        "search" => Call::Search(Station(number(rest)?)),
+        "arrive" => {
+            let (target, minute) = numbers(rest)?;
+            Call::Arrive(Station(target), minute)
+        }
+        "profile" => Call::Profile(Station(number(rest)?)),
+        "journey" => {
+            let (target, minute) = numbers(rest)?;
+            Call::Journey(Station(target), minute)
+        }
         _ => return None,
     })
 }
@@ -86,14 +107,14 @@ impl fmt::Display for Spelled {
 }
 
 impl Settings {
-    /// The settings after the setting of a line's words.
-    fn with(mut self, words: &[&str]) -> Option<Settings> {
-        match *words {
-            ["queues", make] => self.make = make.parse::<Make>().ok()?,
-            ["board", entries] => self.limits.board = number(entries)?,
-            ["labels", entries] => self.limits.labels = number(entries)?,
-            ["memory", entries] => self.memory = number(entries)?,
-            ["room", entries] => self.room = number(entries)?,
+    /// The settings after the setting of a line's first word and of the word behind it.
+    fn with(mut self, name: &str, word: &str) -> Option<Settings> {
+        match name {
+            "queues" => self.make = word.parse::<Make>().ok()?,
+            "board" => self.limits.board = number(word)?,
+            "labels" => self.limits.labels = number(word)?,
+            "memory" => self.memory = number(word)?,
+            "room" => self.room = number(word)?,
             _ => return None,
         }
         Some(self)
@@ -108,11 +129,12 @@ pub(crate) fn read(heap: Global, path: &str, text: &str) -> Result<Vec<Entry>, F
         if line.is_empty() || line.starts_with('#') {
             continue;
         }
-        let words: Vec<&str> = line.split(' ').collect(heap)?;
-        match call_of(words.as_slice()) {
+        // The words are not collected: whatever a line holds, nothing is allocated to read it.
+        let (name, rest) = line.split_once(' ').unwrap_or((line, ""));
+        match call_of(name, rest) {
             Some(call) => entries.push(Entry { call, settings })?,
             None => {
-                settings = settings.with(words.as_slice()).try_ok_or_else(|| {
+                settings = settings.with(name, rest).try_ok_or_else(|| {
                     let number = place.saturating_add(1);
                     Ok(Failure::Arguments(format!(in heap;
                         "{path}: line {number}: no call and no setting: '{line}'"

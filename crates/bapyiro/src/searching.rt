@@ -5,11 +5,14 @@ use crate::failure::{Failure, of_file};
 use crate::files::{contents, opened};
 use crate::lending::Sizes;
 use buckets::Buckets;
+use entries::{BoardEntry, LabelEntry};
 use heap::Heap;
 use listing::Moment;
 use questions::{Standing, profile};
+use queue::Queue;
+use refusals::Refusal;
 use search::{Found, departures, search};
-use std::alloc::Global;
+use std::alloc::{AllocError, Global};
 use timetable::{Label, Pair, Station, Timetable};
 
 /// A search from a source: what it found, and the memory with its rows.
@@ -29,6 +32,21 @@ impl Rows {
     }
 }
 
+/// A search with these queues, and with as long a memory as it needs.
+// The memory comes after the cells of the queues, which need more: where they cannot be had, none is taken and filled.
+fn found_with<T: Timetable, B: Queue<BoardEntry>, L: Queue<LabelEntry>>(
+    heap: Global,
+    t: &T,
+    source: Station,
+    sizes: Sizes,
+    board: &mut B,
+    labels: &mut L,
+) -> Result<(Result<Found, Refusal>, Vec<Label>), AllocError> {
+    let mut memory = vec![in heap; Label::default(); sizes.memory]?;
+    let outcome = search(t, source, board, labels, memory.as_mut_slice());
+    Ok((outcome, memory))
+}
+
 /// A search with as much as it needs. Where it is refused, the failure names the file.
 // Each make has an arm: a queue borrows its cells, so a trait for makes would need an associated type with a lifetime parameter.
 fn searched<T: Timetable>(
@@ -39,27 +57,18 @@ fn searched<T: Timetable>(
     make: Make,
 ) -> Result<Rows, Failure> {
     let sizes = Sizes::enough_for(t, departures(t, source));
-    let mut memory = vec![in heap; Label::default(); sizes.memory]?;
-    let outcome = match make {
+    let (outcome, memory) = match make {
         Make::Heap => {
             let (mut board, mut labels) = sizes.heap_cells(heap)?;
-            search(
-                t,
-                source,
-                &mut Heap::new(board.as_mut_slice()),
-                &mut Heap::new(labels.as_mut_slice()),
-                memory.as_mut_slice(),
-            )
+            let mut board = Heap::new(board.as_mut_slice());
+            let mut labels = Heap::new(labels.as_mut_slice());
+            found_with(heap, t, source, sizes, &mut board, &mut labels)?
         }
         Make::Buckets => {
             let (mut board, mut labels) = sizes.bucket_cells(heap)?;
-            search(
-                t,
-                source,
-                &mut Buckets::new(board.as_mut_slice()),
-                &mut Buckets::new(labels.as_mut_slice()),
-                memory.as_mut_slice(),
-            )
+            let mut board = Buckets::new(board.as_mut_slice());
+            let mut labels = Buckets::new(labels.as_mut_slice());
+            found_with(heap, t, source, sizes, &mut board, &mut labels)?
         }
     };
     let found = of_file(heap, path, outcome)?;

@@ -28,10 +28,10 @@ impl<E: Entry> Cell<E> {
 }
 
 /// The entry of the cell `at`, if there is one.
-pub(crate) fn entry_at<E: Entry>(cells: &[Cell<E>], at: usize) -> Option<E>
-    ensures { MatchOption result (length cells.now ≤ at) (λ x. (at < length cells.now) × ((d : E) → slice_index_or (entries cells.now) at d ≡ x)) }
+pub(crate) fn entry_at<E: Entry>(cells: &[Cell<E>], at: usize) -> Option<&E>
+    ensures { MatchOption result (length cells.now ≤ at) (λ x. (at < length cells.now) × ((d : E) → slice_index_or (entries cells.now) at d ≡ x.now)) }
 {
-    cells.get(at).map(|cell| cell.entry)
+    cells.get(at).map(|cell| &cell.entry)
 }
 
 /// Whether the chain that begins at `at` begins with an entry that is ahead of e.

@@ -21,8 +21,8 @@ pub(crate) struct Front<'a, E: Entry> {
 
 impl<E: Entry> Front<'_, E> {
     /// The first entry of the bucket b.
-    fn first(&self, b: u8) -> Option<E>
-        ensures { MatchOption result (length self.now.cells.now ≤ slice_index self.now.heads.now.first b) (λ x. (slice_index self.now.heads.now.first b < length self.now.cells.now) × ((d : E) → slice_index_or (entries self.now.cells.now) (slice_index self.now.heads.now.first b) d ≡ x)) }
+    fn first(&self, b: u8) -> Option<&E>
+        ensures { MatchOption result (length self.now.cells.now ≤ slice_index self.now.heads.now.first b) (λ x. (slice_index self.now.heads.now.first b < length self.now.cells.now) × ((d : E) → slice_index_or (entries self.now.cells.now) (slice_index self.now.heads.now.first b) d ≡ x.now)) }
     {
         entry_at(self.cells, self.heads.first(b))
     }
@@ -32,7 +32,7 @@ impl<E: Entry> Front<'_, E> {
         ensures { MatchBool result ((d : E) → E.Entry.ahead (slice_index_or (entries self.now.cells.now) (slice_index self.now.heads.now.first b) d) (slice_index_or (entries self.now.cells.now) (slice_index self.now.heads.now.first top) d) ≡ true) ((d : E) → slice_index self.now.heads.now.first b < length self.now.cells.now → slice_index self.now.heads.now.first top < length self.now.cells.now → E.Entry.ahead (slice_index_or (entries self.now.cells.now) (slice_index self.now.heads.now.first b) d) (slice_index_or (entries self.now.cells.now) (slice_index self.now.heads.now.first top) d) ≡ false) }
     {
         match (self.first(b), self.first(top)) {
-            (Some(x), Some(y)) => x.is_ahead(&y),
+            (Some(x), Some(y)) => x.is_ahead(y),
             _ => false,
         }
     }

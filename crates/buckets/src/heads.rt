@@ -90,10 +90,13 @@ impl Heads {
     fn first_filled(&self, from: usize) -> Option<u8>
         ensures { MatchOption result (Clear (occupied self.now.bits) from 256) (λ b. First (occupied self.now.bits) from 256 b) }
     {
-        for (i, word) in self.bits.iter().enumerate() {
-            if let Some(k) = lowest(*word, from.saturating_sub(i * 64)) {
+        // Of the word of `from` only the bits from its own on are asked for, of those after it all.
+        let mut low = from % 64;
+        for i in from / 64..4 {
+            if let Some(k) = lowest(self.bits[i], low) {
                 return Some((i * 64 + k) as u8);
             }
+            low = 0;
         }
         None
     }
@@ -138,11 +141,9 @@ fn without_bit(word: u64, k: usize) -> u64
 
 /// The lowest bit of a word, from `from` on.
 fn lowest(word: u64, from: usize) -> Option<usize>
+    requires { from < 64 }
     ensures { MatchOption result (Clear (bit_at word) from 64) (λ t. First (bit_at word) from 64 t) }
 {
-    if from >= 64 {
-        return None;
-    }
     match word >> from {
         0 => None,
         rest => Some(from + rest.trailing_zeros() as usize),

@@ -8,7 +8,7 @@ ghost use Rattle.timetable.specs.Table.{at, transfer};
 ghost use Rattle.image.specs.Promises.{Writes};
 ghost use Rattle.image.specs.Written.{number_bytes, record_bytes, written};
 
-use crate::layout::record_place;
+use crate::layout::{RECORD_BYTES, TRANSFER_BYTES, record_place, transfer_place};
 use crate::packing::{header_bytes, number_bytes, record_bytes};
 use refusals::{Refusal, enough};
 use std::convert::AsSlice;
@@ -54,14 +54,20 @@ pub fn write<T: Timetable>(t: &T, out: &mut [u8]) -> Result<usize, Refusal>
     let transfer = |v| -> [u8; 2]
         ensures { result ≡ number_bytes (transfer (T.Means.meaning t.entry.now) v) }
     { number_bytes(transfer_at(t, Station(v))) };
-    put_pieces(out, 16, 2, counts.stations, transfer);
+    put_pieces(
+        out,
+        transfer_place(0),
+        TRANSFER_BYTES,
+        counts.stations,
+        transfer,
+    );
     let record = |c| -> [u8; 12]
         ensures { result ≡ record_bytes (at (T.Means.meaning t.entry.now) c) }
     { record_bytes(connection_at(t, ConnectionNo(c))) };
     put_pieces(
         out,
         record_place(counts.stations, 0),
-        12,
+        RECORD_BYTES,
         counts.connections,
         record,
     );

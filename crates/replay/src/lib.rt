@@ -21,3 +21,4 @@ pub use call::Call;
 pub use order::{Order, Queues};
 pub use queue_pair::QueuePair;
 pub use running::replay;
+pub use search::Limits;

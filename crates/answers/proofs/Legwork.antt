@@ -1,5 +1,6 @@
 -- Legs taken from the target back are the legs of the chain.
 use Rattle.std.proofs.Common.{◌≡◌, ℕ, ◌+◌, ◌-◌, ◌<◌, ◌≤◌, Bool, true, false, cond, ltb, ◌⊎◌, List, [], ◌∷◌, ◌++◌, map, length, sym, refl, ap, ◌∙◌, inl, inr, append_assoc, append-nil, arith}
+use Rattle.std.proofs.lemmas.List.{length-map}
 use Rattle.std.proofs.lemmas.Bool.{cond-true, cond-false, cases_Bool, cases_lt, lt-ltb, le-ltb, le-leb, lt-leb, both_ways}
 use Rattle.timetable.specs.declared.leg.Leg.{Leg}
 use Rattle.timetable.specs.Table.{Table, at, stations}
@@ -125,3 +126,7 @@ module _ (t : Table) where
   taken-later m false c n gs = ap (λ (x : Leg). x ∷ map (leg_later m) gs) (sym (leg_of_later m c n))
   taken-later m true c n [] = ap (λ (x : Leg). x ∷ []) (sym (leg_of_later m c n))
   taken-later m true c n (g ∷ gs) = refl
+
+  -- the legs moved on by m minutes are as many as are counted from the end
+  pub leg-length : (m : ℕ) (es : List Entry) → length (map (leg_later m) (legs_of t es)) ≡ count_back t es false
+  leg-length m es = length-map (legs_of t es) (leg_later m) ∙ sym (count_back_is es)

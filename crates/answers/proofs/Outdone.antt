@@ -362,3 +362,15 @@ module _ (w : View) (memory : List Label) where
   same_list (take l c) (pass k n) = absurd (n c)
   same_list (pass l n) (take k d) = absurd (n d)
   same_list (pass l n) (pass k d) = same_list l k
+
+  -- a longer way lists no fewer
+  pub no_fewer : (i j : ℕ) {ps qs : List Pair} → Listed w memory i ps → Listed w memory j qs → i ≤ j → length ps ≤ length qs
+  no_fewer i j {ps} l none h = let z : i ≡ zero = omega arith in omega (arith, ap length (same_list (subst (λ (n : ℕ). Listed w memory n ps) z l) none))
+  no_fewer i j {ps} l (take {i = j'} {ps = qs} k c) h = elim (cases_eq i (suc j')) [
+    | inl e ↦ omega (arith, ap length (same_list (subst (λ (n : ℕ). Listed w memory n ps) e l) (take k c)))
+    | inr e ↦ omega (arith, no_fewer i j' l k (omega arith), length_push qs (row_pair w memory j'))
+  ]
+  no_fewer i j {ps} l (pass {i = j'} {ps = qs} k c) h = elim (cases_eq i (suc j')) [
+    | inl e ↦ omega (arith, ap length (same_list (subst (λ (n : ℕ). Listed w memory n ps) e l) (pass k c)))
+    | inr e ↦ omega (arith, no_fewer i j' l k (omega arith))
+  ]

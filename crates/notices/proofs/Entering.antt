@@ -55,7 +55,7 @@ for_another z y None f n = refl
 for_another z y (Some r) f n = grind (arith, nat_tests)
 
 module _ (z : ℕ) (r : Option Report) where
-  says_set : (xs : List (Option Notice)) (i : ℕ) → i < length xs → ((j : ℕ) → j ≢ i → names (get_or xs j None) z ≡ false) → ((y : ℕ) → y ≢ z → names (get_or xs i None) y ≡ false) → (y : ℕ) → found (set xs i (slot z r)) y ≡ cond (eqb y z) r (found xs y)
+  pub says_set : (xs : List (Option Notice)) (i : ℕ) → i < length xs → ((j : ℕ) → j ≢ i → names (get_or xs j None) z ≡ false) → ((y : ℕ) → y ≢ z → names (get_or xs i None) y ≡ false) → (y : ℕ) → found (set xs i (slot z r)) y ≡ cond (eqb y z) r (found xs y)
   says_set [] i l others here y = absurd (omega arith)
   says_set (x ∷ xs) zero l others here y =
       let none : found xs z ≡ None = found_none xs z (λ j. others (suc j) (λ q. omega arith)) in
@@ -91,13 +91,13 @@ pub none_at_all : (xs : List (Option Notice)) (z : ℕ) → length xs ≡ 32 →
 none_at_all xs z l h j = elim (cases_lt j 32) [ inl k ↦ h j k | inr k ↦ ap (λ x. names x z) (get_or_past xs j None (omega (arith, k, l))) ]
 
 -- no free slot
-all_used : (xs : List (Option Notice)) → ((j : ℕ) → j < length xs → IsSome (get_or xs j None)) → used xs ≡ length xs
+pub all_used : (xs : List (Option Notice)) → ((j : ℕ) → j < length xs → IsSome (get_or xs j None)) → used xs ≡ length xs
 all_used [] h = refl
 all_used (None ∷ xs) h = let e : false ≡ true = h 0 (omega arith) in absurd (cc)
 all_used (Some x ∷ xs) h = omega (arith, sum_by-cons taken (Some x) xs, all_used xs (λ j l. h (suc j) (omega arith)))
 
 -- a free slot, and not all are used
-not_all_used : (xs : List (Option Notice)) (i : ℕ) → i < length xs → get_or xs i None ≡ None → used xs < length xs
+pub not_all_used : (xs : List (Option Notice)) (i : ℕ) → i < length xs → get_or xs i None ≡ None → used xs < length xs
 not_all_used [] i l h = omega arith
 not_all_used (x ∷ xs) zero l h =
     let free : taken x ≡ 0 = ap taken h in
@@ -108,14 +108,18 @@ not_all_used (x ∷ xs) (suc i) l h = omega (arith, sum_by-cons taken x xs, not_
     one_at_most None = omega arith
     one_at_most (Some n) = omega arith
 
--- every slot is free
+-- every slot is free, and names no train
 free_in : (n k : ℕ) → ◌≡◌ {A = Option Notice} (get_or (replicate n None) k None) None
 free_in zero k = refl
 free_in (suc n) zero = refl
 free_in (suc n) (suc k) = free_in n k
 
-pub all_free : (n : ℕ) → OneEach (replicate n None)
-all_free n z i j p = let e = ap (λ x. names x z) (free_in n i) in let q = p.1 in cc
+pub free_replicate : (n k z : ℕ) → names (get_or (replicate n None) k None) z ≡ false
+free_replicate n k z = ap (λ x. names x z) (free_in n k)
+
+-- where no slot names a train, no two name one
+pub all_free : (xs : List (Option Notice)) → ((z k : ℕ) → names (get_or xs k None) z ≡ false) → OneEach xs
+all_free xs h z i j p = let e = h z i in let q = p.1 in cc
 
 -- where a choice comes to nothing, its first answer does not hold, and the rest comes to nothing
 pub past : {X : Type 0} (b : Bool) (x : X) (rest : Option X) → cond b (Some x) rest ≡ None → (b ≡ false) × (rest ≡ None)

@@ -139,6 +139,11 @@ module _ {X : Type 0} {ahead : X → X → Bool} {minute_of : X → ℕ} (o : So
   all_sorted P [] h = tt
   all_sorted P (x ∷ xs) h = all_inserted P x (sorted ahead xs) h.0 (all_sorted P xs h.1)
 
+  -- one that none is ahead of comes first
+  pub sorted-first : (x : X) (xs : List X) → AllByRecursion (λ y. ahead y x ≡ false) xs → sorted ahead (x ∷ xs) ≡ x ∷ sorted ahead xs
+  unfolding sorted
+  sorted-first x xs h = inserted-first x (sorted ahead xs) (all_sorted (λ y. ahead y x ≡ false) xs h)
+
   pub ascends_inserted : (e : X) (xs : List X) → Ascends ahead xs → Ascends ahead (inserted ahead e xs)
   unfolding inserted
   ascends_inserted e [] h = (tt, tt)

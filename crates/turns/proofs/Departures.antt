@@ -38,7 +38,8 @@ module _ (t : Table) where
     unfolding firsts_below
     no_more c e = rw add-one (cond-false (leaves t s c) (listed (sooner t) c (firsts_below t s c)) (firsts_below t s c) e)
 
-    departure_length : (c : ℕ) → length (firsts_below t s (c + 1)) ≡ length (departure_by t s c) + length (firsts_below t s c)
+    -- there are as many below c + 1 as below c and of c together
+    pub departure_length : (c : ℕ) → length (firsts_below t s (c + 1)) ≡ length (departure_by t s c) + length (firsts_below t s c)
     departure_length c = ⊎_elim
         (λ e. omega (arith, ap length (more c e), listed_length c (firsts_below t s c), ap length (cond-true (leaves t s c) (board_entry t c ∷ []) [] e)))
         (λ e. omega (arith, ap length (no_more c e), ap length (cond-false (leaves t s c) (board_entry t c ∷ []) [] e)))

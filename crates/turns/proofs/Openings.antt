@@ -42,6 +42,19 @@ blanked from to before part h l e =
       later = λ n m. drop-put_mid from (to - from) before part n (omega arith) (omega arith) long;
     }
 
+-- no entry is made blank
+pub blanked_none : (from : ℕ) (before : List Label) → Blanked from from before before
+blanked_none from before = record { same_length = refl; earlier = λ k h. refl; blanks = λ k h l. absurd (omega arith); later = λ n h. refl }
+
+-- after those up to k, entry k too
+pub blanked_more : (from k : ℕ) (before after : List Label) → from ≤ k → k < length after → Blanked from k before after → Blanked from (k + 1) before (set after k blank)
+blanked_more from k before after h l b = record {
+  same_length = length-set after k blank ∙ b.same_length;
+  earlier = λ j e. get_or-set_other after k j blank blank (λ z. omega arith) ∙ b.earlier j e;
+  blanks = λ j e f. elim (cases_eq j k) [ inl z ↦ rw z (get_or-set_same after k blank blank l) | inr z ↦ get_or-set_other after k j blank blank z ∙ b.blanks j e (omega arith) ];
+  later = λ n e. drop-set-lt n after k blank (omega arith) ∙ b.later n (omega arith);
+}
+
 pub row_end : (m n i : ℕ) → i < m → i * (n + 1) + (n + 1) ≤ m * (n + 1)
 row_end m n i h = omega (arith, mul-le (i + 1) (n + 1) m (n + 1) (omega arith) (omega arith))
 

@@ -33,7 +33,7 @@ impl Rows {
 }
 
 /// A search with these queues, and with as long a memory as it needs.
-// The memory comes after the cells of the queues, which need more: where they cannot be had, none is taken and filled.
+// The memory comes after the cells of the queues, which as a rule need more: where they cannot be had, none is taken and filled.
 fn found_with<T: Timetable, B: Queue<BoardEntry>, L: Queue<LabelEntry>>(
     heap: Global,
     t: &T,
